@@ -1,0 +1,7 @@
+pub mod BigEndian
+pub mod Fronts
+pub mod PlainCosts
+pub mod Rows
+pub mod Same
+pub mod WideLaws
+pub mod WrittenLaws

@@ -1,0 +1,10 @@
+pub mod Bytes
+pub mod Classes
+pub mod Gauge
+pub mod Kinds
+pub mod Plain
+pub mod Shown
+pub mod Totals
+pub mod Wide
+pub mod Worsts
+pub mod Written
