@@ -1,3 +1,4 @@
 pub mod Prices
+pub mod Replies
 pub mod Rosters
 pub mod Words

@@ -1,11 +1,16 @@
 // The words of a request.
 ghost use mathlib.Core.Path.{_≡_};
-ghost use Rattle.desk.specs.Words.{kind-name};
+ghost use mathlib.Core.List.{List, map};
+ghost use Prim.Native.Nat.{ℕ};
+ghost use Rattle.desk.specs.Words.{kind-name, NumberText, DutyText, PiecesRead, Listed};
+ghost use Rattle.std.specs.Of.Vec.{vec-items, vec-len};
+ghost use Rattle.std.specs.Pieces.{Lacks, rejoined};
+ghost use Rattle.std.specs.Places.{Every};
+ghost use Rattle.std.specs.Options.{Cases as BySome};
 ghost use Rattle.std.specs.Results.{Cases};
-use crate::faults::Fault;
-use crate::faults::FaultFromAlloc;
-use crate::faults::FaultFromRefused;
+ghost use Rattle.std.specs.Vec.{made};
 use costs::values::Duty;
+use std::alloc::AllocError;
 use std::alloc::Global;
 
 #[derive(Clone, Copy)]
@@ -15,63 +20,107 @@ pub enum Kind {
     Class,
 }
 
-pub fn read_kind(word: &str) -> Result<Kind, Fault>
-    ensures { λ r. ⌜ Cases r (λ k. now (word .entry) ≡ kind-name k) (λ _. (k : Kind) → now (word .entry) ≡ kind-name k → ⊥) ⌝ }
+// Why a word is no list.
+#[derive(Clone, Copy)]
+pub enum Unlisted {
+    NoItem,
+    NoMemory,
+}
+
+pub fn read_kind(word: &str) -> Option<Kind>
+    ensures { λ r. ⌜ BySome r ((k : Kind) → now (word .entry) ≡ kind-name k → ⊥) (λ k. now (word .entry) ≡ kind-name k) ⌝ }
 {
     match word {
-        "total" => Ok(Kind::Total),
-        "worst" => Ok(Kind::Worst),
-        "class" => Ok(Kind::Class),
-        _ => Err(Fault::Kind),
+        "total" => Some(Kind::Total),
+        "worst" => Some(Kind::Worst),
+        "class" => Some(Kind::Class),
+        _ => None,
     }
 }
 
-// A decimal number, with no sign.
-fn minutes(word: &str) -> Option<u16> {
+// A decimal number with no sign.
+fn number(word: &str) -> Option<u16>
+    ensures { λ r. ⌜ BySome r ((n : ℕ) → NumberText 16 (now (word .entry)) n → ⊥) (λ n. NumberText 16 (now (word .entry)) n) ⌝ }
+{
     if word.starts_with('+') {
         return None;
     }
-    word.parse::<u16>().ok()
+    match word.parse::<u16>() {
+        Ok(n) => Some(n),
+        Err(_) => None,
+    }
 }
 
-fn duty(word: &str) -> Option<Duty> {
-    let (start, finish) = word.split_once('-')?;
-    Some(Duty {
-        start: minutes(start)?,
-        finish: minutes(finish)?,
-    })
+// What a list between commas may hold.
+pub trait Item: Copy {
+    ghost text: { List ℕ → Self → Type 0 };
+
+    fn read(piece: &str) -> Option<Self>
+        ensures { λ r. ⌜ BySome r ((x : Self) → text (now (piece .entry)) x → ⊥) (λ x. text (now (piece .entry)) x) ⌝ };
 }
 
-// `START-FINISH,START-FINISH,..`, or `.` for none.
-pub fn read_duties(heap: Global, word: &str) -> Result<Vec<Duty>, Fault> {
+// A duty is `START-FINISH`.
+pub impl Item for Duty as DutyItem {
+    ghost text = { DutyText };
+
+    fn read(piece: &str) -> Option<Duty> {
+        let Some((start, finish)) = piece.split_once('-') else {
+            return None;
+        };
+        let Some(start) = number(start) else {
+            return None;
+        };
+        let Some(finish) = number(finish) else {
+            return None;
+        };
+        Some(Duty { start, finish })
+    }
+}
+
+// A column is a number of a byte.
+pub impl Item for u8 as ColumnItem {
+    ghost text = { NumberText 8 };
+
+    fn read(piece: &str) -> Option<u8> {
+        let Some(n) = number(piece) else {
+            return None;
+        };
+        if n < 256 { Some(n as u8) } else { None }
+    }
+}
+
+fn pieces<'a>(heap: Global, word: &'a str) -> Result<Vec<&'a str>, AllocError>
+    ensures joined { λ r. ⌜ made r (λ v. now (word .entry) ≡ rejoined 44 (map (λ x. x .now) (vec-items v))) ⌝ }
+    ensures apart { λ r. ⌜ made r (λ v. Every (λ x. Lacks 44 (x .now)) (vec-items v) 0 (vec-len v)) ⌝ }
+{
+    word.split(',').collect(heap)
+}
+
+fn read_pieces<T: Item>(heap: Global, parts: &[&str]) -> Result<Vec<T>, Unlisted>
+    ensures { λ r. ⌜ PiecesRead text (map (λ x. x .now) (now (parts .entry))) r ⌝ }
+{
     let mut list = Vec::new(heap);
+    for part in parts {
+        let Some(item) = T::read(part) else {
+            return Err(Unlisted::NoItem);
+        };
+        match list.push(item) {
+            Ok(()) => {}
+            Err(_) => return Err(Unlisted::NoMemory),
+        }
+    }
+    Ok(list)
+}
+
+// `ITEM,ITEM,..`, or `.` for none.
+pub fn read_list<T: Item>(heap: Global, word: &str) -> Result<Vec<T>, Unlisted>
+    ensures { λ r. ⌜ Listed text (now (word .entry)) r ⌝ }
+{
     if word == "." {
-        return Ok(list);
+        return Ok(Vec::new(heap));
     }
-    for part in word.split(',') {
-        let Some(d) = duty(part) else {
-            return Err(Fault::Duties);
-        };
-        list.push(d)?;
+    match pieces(heap, word) {
+        Ok(parts) => read_pieces(heap, parts.as_slice()),
+        Err(_) => Err(Unlisted::NoMemory),
     }
-    Ok(list)
-}
-
-// `COLUMN,COLUMN,..`
-pub fn read_columns(heap: Global, word: &str) -> Result<Vec<u8>, Fault> {
-    let mut list = Vec::new(heap);
-    for part in word.split(',') {
-        let Some(column) = column(part) else {
-            return Err(Fault::Columns);
-        };
-        list.push(column)?;
-    }
-    Ok(list)
-}
-
-fn column(word: &str) -> Option<u8> {
-    if word.starts_with('+') {
-        return None;
-    }
-    word.parse::<u8>().ok()
 }

@@ -1,0 +1,95 @@
+-- Numbers and duties as text. Assumes nothing.
+use mathlib.Core.Path.{_≡_, refl, sym, ap, subst, _∙_}
+use mathlib.Core.Bool.{Bool, true, false, cond}
+use mathlib.Core.List.{List, [], _∷_, _++_, map}
+use mathlib.Core.Logic.{⊎-elim, inr}
+use Prim.Native.Nat.{ℕ, zero, suc, _+_, _<_}
+use native.Mathlib.Omega.{arith}
+use denote.Ref.{RefT}
+use lib.ListN.{length, getD, take, drop, length-append}
+use Rattle.std.specs.declared.option.Option.the-variants.{Some, None}
+use Rattle.std.specs.declared.result.Result.{Result}
+use Rattle.std.specs.declared.result.Result.the-variants.{Ok, Err}
+use Rattle.std.specs.declared.vec.Vec.{Vec}
+use Rattle.std.specs.Reads.{Numeral, value, afterPlus}
+use Rattle.std.specs.Text.{In}
+use Rattle.std.proofs.shelf.Lists.{getD-at, map-append, take-more}
+use Rattle.std.proofs.shelf.Numerals.{digit-at}
+use Rattle.std.proofs.shelf.Patterns.{SplitAt, split-after, split-parts}
+use Rattle.std.proofs.shelf.Ways.{eqb-tells}
+use Rattle.costs.specs.declared.values.Duty.{Duty}
+use Rattle.desk.specs.declared.words.Unlisted.{Unlisted}
+use Rattle.desk.specs.declared.words.Unlisted.the-variants.{NoItem, NoMemory}
+use Rattle.desk.specs.Words.{NumberText, DutyText, CutAtCommas, Texts, NoText, PiecesRead, Listed}
+
+pub no-plus : (bs : List ℕ) → (getD bs 0 0 ≡ 43 → ⊥) → afterPlus bs ≡ bs
+no-plus bs other =
+    ⊎-elim (λ is. absurd (other (is .1))) (λ not. ap (λ b. drop (cond b 1 0) bs) (not .0)) (eqb-tells (getD bs 0 0) 43)
+
+-- digits hold no dash
+digits-lack-dash : (bs : List ℕ) → Numeral 10 bs → (i : ℕ) → i < length bs → getD bs i 0 ≡ 45 → ⊥
+digits-lack-dash bs h i within e = let digit = digit-at bs i (h .1) within in omega arith
+
+module _ (bs : List ℕ) (d : Duty) (t : DutyText bs d) where
+  pub duty-has-dash : ((i : ℕ) → i < length bs → getD bs i 0 ≡ 45 → ⊥) → ⊥
+  duty-has-dash lacks =
+      let front = t .start-text in
+      let back = t .finish-text in
+      lacks (length front) (omega (arith, ap length (t .whole), length-append front (45 ∷ back))) (ap (λ l. getD l (length front) 0) (t .whole) ∙ getD-at front 45 back 0 (length front) refl)
+
+  -- a cut at the first dash falls between start and finish
+  pub duty-cut : (start finish : RefT (List ℕ)) → SplitAt 45 bs (Some (start, finish)) → NumberText 16 (start .now) (d .start) × NumberText 16 (finish .now) (d .finish)
+  duty-cut start finish cut =
+      let same = split-after 45 bs (t .start-text) (t .finish-text) (Some (start, finish)) cut (omega arith) (t .whole) (digits-lack-dash (t .start-text) (t .start-is .digits)) in
+      (subst (λ l. NumberText 16 l (d .start)) (sym (same .0)) (t .start-is), subst (λ l. NumberText 16 l (d .finish)) (sym (same .1)) (t .finish-is))
+
+-- start and finish around a dash are a duty
+pub duty-joined : (bs : List ℕ) (start finish : RefT (List ℕ)) (s f : ℕ) → SplitAt 45 bs (Some (start, finish)) → NumberText 16 (start .now) s → NumberText 16 (finish .now) f → DutyText bs (record { start = s; finish = f })
+duty-joined bs start finish s f cut first last = record {
+  start-text = start .now;
+  finish-text = finish .now;
+  whole = split-parts 45 bs (Some (start, finish)) cut (omega arith) .0;
+  start-is = first;
+  finish-is = last;
+}
+
+-- one piece more, with its item
+texts-push : {X : Type 0} (Text : List ℕ → X → Type 0) (pieces : List (List ℕ)) (xs : List X) (p : List ℕ) (x : X) → Texts Text pieces xs → Text p x → Texts Text (pieces ++ (p ∷ [])) (xs ++ (x ∷ []))
+texts-push Text [] [] p x sofar here = (here, tt)
+texts-push Text [] (y ∷ xs) p x sofar here = absurd sofar
+texts-push Text (q ∷ pieces) [] p x sofar here = absurd sofar
+texts-push Text (q ∷ pieces) (y ∷ xs) p x sofar here = (sofar .0, texts-push Text pieces xs p x (sofar .1) here)
+
+-- stands where there is no piece
+abbrev pub nowhere : RefT (List ℕ)
+nowhere = record { ptr = (0, 0); name = 0; now = [] }
+
+-- the text behind each reference
+abbrev pub behind : List (RefT (List ℕ)) → List (List ℕ)
+behind parts = map (λ x. x .now) parts
+
+getD-behind : (parts : List (RefT (List ℕ))) (i : ℕ) (r : RefT (List ℕ)) → i < length parts → getD (behind parts) i [] ≡ getD parts i r .now
+getD-behind [] i r h = absurd (omega arith)
+getD-behind (p ∷ parts) zero r h = refl
+getD-behind (p ∷ parts) (suc i) r h = getD-behind parts i r (omega arith)
+
+length-behind : (parts : List (RefT (List ℕ))) → length (behind parts) ≡ length parts
+length-behind [] = refl
+length-behind (p ∷ parts) = ap suc (length-behind parts)
+
+module _ {X : Type 0} (Text : List ℕ → X → Type 0) (parts : List (RefT (List ℕ))) (i : ℕ) (within : i < length parts) where
+  -- a loop's step: the piece at i is the text of x
+  pub texts-more : (xs : List X) (x : X) → Texts Text (behind (take i parts)) xs → Text (getD parts i nowhere .now) x → Texts Text (behind (take (i + 1) parts)) (xs ++ (x ∷ []))
+  texts-more xs x sofar here =
+      subst (λ l. Texts Text l (xs ++ (x ∷ []))) (sym (ap behind (take-more parts i nowhere within) ∙ map-append (λ p. p .now) (take i parts) (getD parts i nowhere ∷ [])))
+      (texts-push Text (behind (take i parts)) xs (getD parts i nowhere .now) x sofar here)
+
+  -- the piece at i is the text of none
+  pub text-of-none : ((x : X) → Text (getD parts i nowhere .now) x → ⊥) → NoText Text (behind parts)
+  text-of-none none = (i, omega (arith, length-behind parts), λ x text. none x (subst (λ l. Text l x) (getD-behind parts i nowhere within) text))
+
+-- a word cut at its commas, and what its pieces give
+pub listed : {X A : Type 0} (Text : List ℕ → X → Type 0) (word : List ℕ) (pieces : List (List ℕ)) (r : Result (Vec X A) Unlisted) → CutAtCommas word pieces → PiecesRead Text pieces r → Listed Text word r
+listed Text word pieces (Ok v) cut read = inr (pieces, cut, read)
+listed Text word pieces (Err NoItem) cut read = (pieces, cut, read)
+listed Text word pieces (Err NoMemory) cut read = tt
