@@ -1,7 +1,7 @@
 -- Numbers and duties as text. Assumes nothing.
 use mathlib.Core.Path.{_≡_, refl, sym, ap, subst, _∙_}
 use mathlib.Core.Bool.{Bool, true, false, cond}
-use mathlib.Core.List.{List, [], _∷_, _++_, map}
+use mathlib.Core.List.{List, [], _∷_, _++_, map, append-assoc, append-nil}
 use mathlib.Core.Logic.{⊎-elim, inr}
 use Prim.Native.Nat.{ℕ, zero, suc, _+_, _<_}
 use native.Mathlib.Omega.{arith}
@@ -13,14 +13,15 @@ use Rattle.std.specs.declared.result.Result.the-variants.{Ok, Err}
 use Rattle.std.specs.declared.vec.Vec.{Vec}
 use Rattle.std.specs.Reads.{Numeral, value, afterPlus}
 use Rattle.std.specs.Text.{In}
-use Rattle.std.proofs.shelf.Lists.{getD-at, map-append, take-more}
+use Rattle.std.specs.Words.{white, dark, Without, Opens}
+use Rattle.std.proofs.shelf.Lists.{getD-at, map-append, map-push, take-more}
 use Rattle.std.proofs.shelf.Numerals.{digit-at}
 use Rattle.std.proofs.shelf.Patterns.{SplitAt, split-after, split-parts}
 use Rattle.std.proofs.shelf.Ways.{eqb-tells}
 use Rattle.costs.specs.declared.values.Duty.{Duty}
 use Rattle.desk.specs.declared.words.Unlisted.{Unlisted}
 use Rattle.desk.specs.declared.words.Unlisted.the-variants.{NoItem, NoMemory}
-use Rattle.desk.specs.Words.{NumberText, DutyText, CutAtCommas, Texts, NoText, PiecesRead, Listed}
+use Rattle.desk.specs.Words.{FirstWord, WordsOf, NumberText, DutyText, CutAtCommas, Texts, NoText, PiecesRead, Listed}
 
 pub no-plus : (bs : List ℕ) → (getD bs 0 0 ≡ 43 → ⊥) → afterPlus bs ≡ bs
 no-plus bs other =
@@ -93,3 +94,38 @@ pub listed : {X A : Type 0} (Text : List ℕ → X → Type 0) (word : List ℕ)
 listed Text word pieces (Ok v) cut read = inr (pieces, cut, read)
 listed Text word pieces (Err NoItem) cut read = (pieces, cut, read)
 listed Text word pieces (Err NoMemory) cut read = tt
+
+-- the words found are the first of the line's, and those of rest come behind them
+abbrev pub WordsSofar : List ℕ → List ℕ → List (List ℕ) → Type 0
+WordsSofar line rest found = (ws : List (List ℕ)) → WordsOf rest ws → WordsOf line (found ++ ws)
+
+pub words-more : (line rest next w : List ℕ) (found : List (List ℕ)) → WordsSofar line rest found → FirstWord rest w next → WordsSofar line next (found ++ (w ∷ []))
+words-more line rest next w found sofar first = λ ws h. subst (WordsOf line) (sym (append-assoc found (w ∷ []) ws)) (sofar (w ∷ ws) (next, first, h))
+
+pub words-all : (line rest : List ℕ) (found : List (List ℕ)) → WordsSofar line rest found → WordsOf rest [] → WordsOf line found
+words-all line rest found sofar none = subst (WordsOf line) (append-nil found) (sofar [] none)
+
+-- what `split_whitespace` says of a word
+pub first-word : (line w rest : List ℕ) → (gap : List ℕ) × (line ≡ gap ++ (w ++ rest)) × (0 < length w) × Without dark gap × Without white w × ((more : List ℕ) × Opens white rest more) → FirstWord line w rest
+first-word line w rest cut = record { blanks = cut .0; cut = cut .1; some = cut .2; blank = cut .3; solid = cut .4; ends = cut .5 }
+
+pub words-none : (line rest : List ℕ) (found : List (List ℕ)) → rest ≡ line → found ≡ [] → WordsSofar line rest found
+words-none line rest found whole none = λ ws h. rw none (subst (λ l. WordsOf l ws) whole h)
+
+-- a word found goes behind the others
+pub words-push : (line rest next : List ℕ) (old new : List (RefT (List ℕ))) (w : RefT (List ℕ)) → new ≡ old ++ (w ∷ []) → WordsSofar line rest (behind old) → FirstWord rest (w .now) next → WordsSofar line next (behind new)
+words-push line rest next old new w pushed sofar first =
+    subst (WordsSofar line next) (sym (ap behind pushed ∙ map-push (λ x. x .now) old w)) (words-more line rest next (w .now) (behind old) sofar first)
+
+pub no-words : (parts : List (RefT (List ℕ))) → length parts ≡ 0 → behind parts ≡ []
+no-words [] h = refl
+no-words (p ∷ parts) h = absurd (omega arith)
+
+pub five-words : (parts : List (RefT (List ℕ))) → length parts ≡ 5 → behind parts ≡ getD parts 0 nowhere .now ∷ getD parts 1 nowhere .now ∷ getD parts 2 nowhere .now ∷ getD parts 3 nowhere .now ∷ getD parts 4 nowhere .now ∷ []
+five-words [] h = absurd (omega arith)
+five-words (a ∷ []) h = absurd (omega arith)
+five-words (a ∷ b ∷ []) h = absurd (omega arith)
+five-words (a ∷ b ∷ c ∷ []) h = absurd (omega arith)
+five-words (a ∷ b ∷ c ∷ d ∷ []) h = absurd (omega arith)
+five-words (a ∷ b ∷ c ∷ d ∷ e ∷ []) h = refl
+five-words (a ∷ b ∷ c ∷ d ∷ e ∷ f ∷ parts) h = absurd (omega arith)

@@ -8,6 +8,7 @@ use lib.ListN.{length, getD}
 use Rattle.std.specs.Of.Vec.{vec-items}
 use Rattle.std.specs.Pieces.{Lacks, rejoined}
 use Rattle.std.specs.Reads.{Numeral, value}
+use Rattle.std.specs.Words.{white, dark, Without, Opens}
 use Rattle.std.specs.shelf.Lists.{All}
 use Rattle.std.specs.declared.result.Result.{Result}
 use Rattle.std.specs.declared.result.Result.the-variants.{Ok, Err}
@@ -17,6 +18,20 @@ use Rattle.desk.specs.declared.words.Kind.{Kind}
 use Rattle.desk.specs.declared.words.Kind.the-variants.{Total, Worst, Class}
 use Rattle.desk.specs.declared.words.Unlisted.{Unlisted}
 use Rattle.desk.specs.declared.words.Unlisted.the-variants.{NoItem, NoMemory}
+
+-- a line is blanks, the word w, and rest, which is empty or begins with a blank
+pub record FirstWord (line w rest : List ℕ) : Type 0 where
+  pub blanks : List ℕ
+  pub cut : line ≡ blanks ++ (w ++ rest)
+  pub some : 0 < length w
+  pub blank : Without dark blanks
+  pub solid : Without white w
+  pub ends : (more : List ℕ) × Opens white rest more
+
+-- the words of a line, in their order
+abbrev pub WordsOf : List ℕ → List (List ℕ) → Type 0
+WordsOf line [] = Without dark line
+WordsOf line (w ∷ ws) = (rest : List ℕ) × FirstWord line w rest × WordsOf rest ws
 
 -- a kind's name, in bytes
 abbrev pub kind-name : Kind → List ℕ

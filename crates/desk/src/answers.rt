@@ -1,8 +1,8 @@
 // From a line to its answer.
 ghost use mathlib.Core.Path.{_≡_};
-ghost use mathlib.Core.List.{_++_};
+ghost use mathlib.Core.List.{map, _++_};
 ghost use lib.Chars.{codes};
-ghost use Rattle.desk.specs.Replies.{price-text, PriceReply};
+ghost use Rattle.desk.specs.Replies.{price-text, PriceReply, WordsReplied, Replied};
 ghost use Rattle.desk.specs.Words.{NumberText, DutyText, ListText};
 ghost use Rattle.std.specs.Of.String.{string-bytes};
 ghost use Rattle.std.specs.Of.Vec.{vec-items};
@@ -15,6 +15,7 @@ use crate::price::price_roster;
 use crate::words::ColumnItem;
 use crate::words::DutyItem;
 use crate::words::Unlisted;
+use crate::words::cut_words;
 use crate::words::read_kind;
 use crate::words::read_list;
 use costs::show::ClassDisplay;
@@ -27,22 +28,33 @@ use std::alloc::Global;
 use std::str::from_utf8;
 
 // The answer to a line; none to an empty line or a comment.
-pub fn answer(heap: Global, line: &[u8]) -> Result<Option<String>, Fault> {
+pub fn answer(heap: Global, line: &[u8]) -> Result<Option<String>, Fault>
+    ensures { λ r. ⌜ Replied (now (line .entry)) r ⌝ }
+{
     if line.starts_with(b"#") {
         return Ok(None);
     }
     let Ok(text) = from_utf8(line) else {
         return Err(Fault::Text);
     };
-    let words: Vec<&str> = text.split_whitespace().collect(heap)?;
-    match words.as_slice() {
-        [] => Ok(None),
-        ["price", kind, earlier, later, roster] => Ok(Some(
-            answer_price(heap, kind, earlier, later, roster)?,
-        )),
-        ["price", ..] => Err(Fault::PriceWords),
-        _ => Err(Fault::Request),
+    let words = cut_words(heap, text)?;
+    answer_words(heap, words.as_slice())
+}
+
+fn answer_words(heap: Global, words: &[&str]) -> Result<Option<String>, Fault>
+    ensures { λ r. ⌜ WordsReplied (map (λ x. x .now) (now (words .entry))) r ⌝ }
+{
+    if words.is_empty() {
+        return Ok(None);
     }
+    if words[0] != "price" {
+        return Err(Fault::Request);
+    }
+    if words.len() != 5 {
+        return Err(Fault::PriceWords);
+    }
+    let text = answer_price(heap, words[1], words[2], words[3], words[4])?;
+    Ok(Some(text))
 }
 
 fn duties(heap: Global, word: &str) -> Result<Vec<Duty>, Fault>

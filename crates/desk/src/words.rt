@@ -2,7 +2,7 @@
 ghost use mathlib.Core.Path.{_≡_};
 ghost use mathlib.Core.List.{List, map};
 ghost use Prim.Native.Nat.{ℕ};
-ghost use Rattle.desk.specs.Words.{kind-name, NumberText, DutyText, PiecesRead, Listed};
+ghost use Rattle.desk.specs.Words.{WordsOf, kind-name, NumberText, DutyText, PiecesRead, Listed};
 ghost use Rattle.std.specs.Of.Vec.{vec-items, vec-len};
 ghost use Rattle.std.specs.Pieces.{Lacks, rejoined};
 ghost use Rattle.std.specs.Places.{Every};
@@ -25,6 +25,17 @@ pub enum Kind {
 pub enum Unlisted {
     NoItem,
     NoMemory,
+}
+
+// The words of a line, which blanks separate.
+pub fn cut_words<'a>(heap: Global, line: &'a str) -> Result<Vec<&'a str>, AllocError>
+    ensures { λ r. ⌜ made r (λ v. WordsOf (now (line .entry)) (map (λ x. x .now) (vec-items v))) ⌝ }
+{
+    let mut words = Vec::new(heap);
+    for word in line.split_whitespace() {
+        words.push(word)?;
+    }
+    Ok(words)
 }
 
 pub fn read_kind(word: &str) -> Option<Kind>
