@@ -1,6 +1,6 @@
 -- Numbers and duties as text. Assumes nothing.
 use mathlib.Core.Path.{_≡_, refl, sym, ap, subst, _∙_}
-use mathlib.Core.Bool.{Bool, true, false, cond}
+use mathlib.Core.Bool.{Bool, true, false, not, cond}
 use mathlib.Core.List.{List, [], _∷_, _++_, map, append-assoc, append-nil}
 use mathlib.Core.Logic.{⊎-elim, inr}
 use Prim.Native.Nat.{ℕ, zero, suc, _+_, _<_}
@@ -11,13 +11,15 @@ use Rattle.std.specs.declared.option.Option.the-variants.{Some, None}
 use Rattle.std.specs.declared.result.Result.{Result}
 use Rattle.std.specs.declared.result.Result.the-variants.{Ok, Err}
 use Rattle.std.specs.declared.vec.Vec.{Vec}
+use Rattle.std.specs.Orderings.{Decides}
 use Rattle.std.specs.Reads.{Numeral, value, afterPlus}
 use Rattle.std.specs.Text.{In}
 use Rattle.std.specs.Words.{white, dark, Without, Opens}
 use Rattle.std.proofs.shelf.Lists.{getD-at, map-append, map-push, take-more}
 use Rattle.std.proofs.shelf.Numerals.{digit-at}
 use Rattle.std.proofs.shelf.Patterns.{SplitAt, split-after, split-parts}
-use Rattle.std.proofs.shelf.Ways.{eqb-tells}
+use Rattle.std.proofs.shelf.Tests.{not-true, not-false}
+use Rattle.std.proofs.shelf.Ways.{eqb-tells, not-from-decides}
 use Rattle.costs.specs.declared.values.Duty.{Duty}
 use Rattle.desk.specs.declared.words.Unlisted.{Unlisted}
 use Rattle.desk.specs.declared.words.Unlisted.the-variants.{NoItem, NoMemory}
@@ -121,6 +123,14 @@ pub no-words : (parts : List (RefT (List ℕ))) → length parts ≡ 0 → behin
 no-words [] h = refl
 no-words (p ∷ parts) h = absurd (omega arith)
 
+pub first-and-others : (parts : List (RefT (List ℕ))) → 0 < length parts → behind parts ≡ getD parts 0 nowhere .now ∷ behind (drop 1 parts)
+first-and-others [] h = absurd (omega arith)
+first-and-others (p ∷ parts) h = refl
+
+pub length-others : (parts : List (RefT (List ℕ))) → 0 < length parts → length (behind (drop 1 parts)) + 1 ≡ length parts
+length-others [] h = absurd (omega arith)
+length-others (p ∷ parts) h = omega (arith, length-behind parts)
+
 pub five-words : (parts : List (RefT (List ℕ))) → length parts ≡ 5 → behind parts ≡ getD parts 0 nowhere .now ∷ getD parts 1 nowhere .now ∷ getD parts 2 nowhere .now ∷ getD parts 3 nowhere .now ∷ getD parts 4 nowhere .now ∷ []
 five-words [] h = absurd (omega arith)
 five-words (a ∷ []) h = absurd (omega arith)
@@ -129,3 +139,10 @@ five-words (a ∷ b ∷ c ∷ []) h = absurd (omega arith)
 five-words (a ∷ b ∷ c ∷ d ∷ []) h = absurd (omega arith)
 five-words (a ∷ b ∷ c ∷ d ∷ e ∷ []) h = refl
 five-words (a ∷ b ∷ c ∷ d ∷ e ∷ f ∷ parts) h = absurd (omega arith)
+
+-- what `!=` tells
+pub same-text : {P : Type 0} → ((x : Bool) × Decides x P × (false ≡ not x)) → P
+same-text told = told .1 .0 (not-false (told .0) (sym (told .2)))
+
+pub other-text : {P : Type 0} → ((x : Bool) × Decides x P × (true ≡ not x)) → P → ⊥
+other-text told = not-from-decides (told .0) (told .1) (not-true (told .0) (sym (told .2)))

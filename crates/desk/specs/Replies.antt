@@ -1,10 +1,12 @@
--- The desk's answers as text. Assumes nothing.
+-- The desk's answers to a line, by its bytes. Assumes nothing.
 use mathlib.Core.Path.{_≡_}
 use mathlib.Core.List.{List, [], _∷_, _++_}
 use mathlib.Core.Logic.{_⊎_}
 use Prim.Native.Nat.{ℕ}
 use lib.Chars.{codes}
+use lib.ListN.{length}
 use Rattle.std.specs.Of.String.{string-bytes}
+use Rattle.std.specs.Text.{Utf8}
 use Rattle.std.specs.Written.{decimal}
 use Rattle.std.specs.declared.option.Option.{Option}
 use Rattle.std.specs.declared.option.Option.the-variants.{Some, None}
@@ -14,10 +16,14 @@ use Rattle.std.specs.declared.string.String.{String}
 use Rattle.costs.specs.declared.values.Duty.{Duty}
 use Rattle.costs.specs.declared.values.Widened.the-variants.{Allowed, Forbidden}
 use Rattle.desk.specs.Prices.{Answered}
-use Rattle.desk.specs.Words.{WordsOf, kind-name, NumberText, DutyText, ListText}
+use Rattle.desk.specs.Words.{WordsOf, kind-name, NumberText, DutyText, ListText, NoList}
 use Rattle.desk.specs.declared.faults.Fault.{Fault}
+use Rattle.desk.specs.declared.faults.Fault.the-variants.{NotText, NoRequest, NotFiveWords, InPrice, OutOfMemory}
+use Rattle.desk.specs.declared.faults.PriceFault.{PriceFault}
+use Rattle.desk.specs.declared.faults.PriceFault.the-variants.{NoKind, NoDuties, NoColumns, NotPriced, NoMemoryLeft}
 use Rattle.desk.specs.declared.price.Price.{Price}
 use Rattle.desk.specs.declared.price.Price.the-variants.{InTotal, InWorst, InClass}
+use Rattle.desk.specs.declared.price.Unpriced.{Unpriced}
 use Rattle.desk.specs.declared.words.Kind.{Kind}
 
 -- a price as text: minutes, class:minutes, or forbidden
@@ -29,37 +35,63 @@ price-text (InWorst Forbidden) = codes "forbidden"
 price-text (InClass (Allowed c)) = decimal (c .class) ++ (codes ":" ++ decimal (c .minutes))
 price-text (InClass Forbidden) = codes "forbidden"
 
--- a price request by its words, and the answer to it
-pub record PriceReply (kind-word earlier-word later-word roster-word reply : List ℕ) : Type 0 where
+-- the words of a price request behind the first
+pub record PriceWords : Type 0 where
+  pub kind-word : List ℕ
+  pub earlier-word : List ℕ
+  pub later-word : List ℕ
+  pub roster-word : List ℕ
+
+abbrev pub request : PriceWords → List (List ℕ)
+request q = codes "price" ∷ q .kind-word ∷ q .earlier-word ∷ q .later-word ∷ q .roster-word ∷ []
+
+-- what they say
+pub record Says (q : PriceWords) (kind : Kind) (earlier later : List Duty) (columns : List ℕ) : Type 0 where
+  pub kind-is : q .kind-word ≡ kind-name kind
+  pub earlier-is : ListText DutyText (q .earlier-word) earlier
+  pub later-is : ListText DutyText (q .later-word) later
+  pub columns-are : ListText (NumberText 8) (q .roster-word) columns
+
+-- what is answered to what they say
+pub record PriceAnswer (q : PriceWords) (answer : Result Price Unpriced) : Type 0 where
   pub kind : Kind
   pub earlier : List Duty
   pub later : List Duty
   pub columns : List ℕ
-  pub price : Price
-  pub kind-is : kind-word ≡ kind-name kind
-  pub earlier-is : ListText DutyText earlier-word earlier
-  pub later-is : ListText DutyText later-word later
-  pub columns-are : ListText (NumberText 8) roster-word columns
-  pub answered : Answered kind earlier later columns (Ok price)
-  pub reply-is : reply ≡ codes "ok " ++ price-text price
+  pub says : Says q kind earlier later columns
+  pub answered : Answered kind earlier later columns answer
 
--- a price request and the answer to it
-abbrev pub PriceRequest : List (List ℕ) → List ℕ → Type 0
-PriceRequest words reply =
-    (kind-word : List ℕ) × (earlier-word : List ℕ) × (later-word : List ℕ) × (roster-word : List ℕ) × (words ≡ codes "price" ∷ kind-word ∷ earlier-word ∷ later-word ∷ roster-word ∷ []) × PriceReply kind-word earlier-word later-word roster-word reply
+-- the reply to a price request that is priced
+abbrev pub PriceReply : PriceWords → List ℕ → Type 0
+PriceReply q reply = (price : Price) × PriceAnswer q (Ok price) × (reply ≡ codes "ok " ++ price-text price)
 
--- what is answered to a line by its words
+-- the error for one that is not: its kind has no such name, a list of duties or the roster is no list, or it is refused; memory may be wanting
+abbrev pub PriceError : PriceWords → PriceFault → Type 0
+PriceError q NoKind = (k : Kind) → q .kind-word ≡ kind-name k → ⊥
+PriceError q NoDuties = NoList DutyText (q .earlier-word) ⊎ NoList DutyText (q .later-word)
+PriceError q NoColumns = NoList (NumberText 8) (q .roster-word)
+PriceError q (NotPriced why) = PriceAnswer q (Err why)
+PriceError q NoMemoryLeft = Unit {0}
+
+-- what is answered to a price request
+abbrev pub PriceAnswered : {A : Type 0} → PriceWords → Result (String A) PriceFault → Type 0
+PriceAnswered q (Ok s) = PriceReply q (string-bytes s)
+PriceAnswered q (Err why) = PriceError q why
+
+-- what is answered to a line's words: nothing if there are none, its reply to a price request, or an error
 abbrev pub WordsReplied : {A : Type 0} → List (List ℕ) → Result (Option (String A)) Fault → Type 0
 WordsReplied words (Ok None) = words ≡ []
-WordsReplied words (Ok (Some s)) = PriceRequest words (string-bytes s)
-WordsReplied words (Err f) = Unit {0}
+WordsReplied words (Ok (Some s)) = (q : PriceWords) × (words ≡ request q) × PriceReply q (string-bytes s)
+WordsReplied words (Err NotText) = ⊥
+WordsReplied words (Err NoRequest) = (first : List ℕ) × (others : List (List ℕ)) × (words ≡ first ∷ others) × (first ≡ codes "price" → ⊥)
+WordsReplied words (Err NotFiveWords) = (others : List (List ℕ)) × (words ≡ codes "price" ∷ others) × (length others ≡ 4 → ⊥)
+WordsReplied words (Err (InPrice why)) = (q : PriceWords) × (words ≡ request q) × PriceError q why
+WordsReplied words (Err OutOfMemory) = Unit {0}
 
 -- a line that begins with #
 abbrev pub Comment : List ℕ → Type 0
 Comment line = (rest : List ℕ) × (line ≡ codes "#" ++ rest)
 
--- what is answered to a line: nothing to a comment or a line with no words, and to a price request its reply
+-- what is answered to a line: nothing to a comment, an error to what is no text, and otherwise what is answered to its words; memory may be wanting
 abbrev pub Replied : {A : Type 0} → List ℕ → Result (Option (String A)) Fault → Type 0
-Replied line (Ok None) = Comment line ⊎ WordsOf line []
-Replied line (Ok (Some s)) = (words : List (List ℕ)) × WordsOf line words × PriceRequest words (string-bytes s)
-Replied line (Err f) = Unit {0}
+Replied {A} line r = (Comment line × (r ≡ Ok None)) ⊎ (((Utf8 line → ⊥) × (r ≡ Err NotText)) ⊎ ((r ≡ Err OutOfMemory) ⊎ ((words : List (List ℕ)) × WordsOf line words × WordsReplied words r)))

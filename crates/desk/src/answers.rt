@@ -1,19 +1,24 @@
 // From a line to its answer.
 ghost use mathlib.Core.Path.{_≡_};
 ghost use mathlib.Core.List.{map, _++_};
+ghost use mathlib.Core.Logic.{_⊎_};
 ghost use lib.Chars.{codes};
-ghost use Rattle.desk.specs.Replies.{price-text, PriceReply, WordsReplied, Replied};
-ghost use Rattle.desk.specs.Words.{NumberText, DutyText, ListText};
+ghost use Rattle.desk.specs.Replies.{price-text, PriceAnswered, WordsReplied, Replied};
+ghost use Rattle.desk.specs.Words.{NumberText, DutyText, ListText, NoList};
+ghost use Rattle.desk.specs.declared.faults.PriceFault.the-variants.{NoMemoryLeft};
 ghost use Rattle.std.specs.Of.String.{string-bytes};
 ghost use Rattle.std.specs.Of.Vec.{vec-items};
+ghost use Rattle.std.specs.Results.{Cases};
 ghost use Rattle.std.specs.Vec.{made};
 use crate::faults::Fault;
 use crate::faults::FaultFromAlloc;
-use crate::faults::FaultFromUnpriced;
+use crate::faults::PriceFault;
+use crate::faults::PriceFaultFromAlloc;
 use crate::price::Price;
 use crate::price::price_roster;
 use crate::words::ColumnItem;
 use crate::words::DutyItem;
+use crate::words::Item;
 use crate::words::Unlisted;
 use crate::words::cut_words;
 use crate::words::read_kind;
@@ -35,7 +40,7 @@ pub fn answer(heap: Global, line: &[u8]) -> Result<Option<String>, Fault>
         return Ok(None);
     }
     let Ok(text) = from_utf8(line) else {
-        return Err(Fault::Text);
+        return Err(Fault::NotText);
     };
     let words = cut_words(heap, text)?;
     answer_words(heap, words.as_slice())
@@ -48,32 +53,24 @@ fn answer_words(heap: Global, words: &[&str]) -> Result<Option<String>, Fault>
         return Ok(None);
     }
     if words[0] != "price" {
-        return Err(Fault::Request);
+        return Err(Fault::NoRequest);
     }
     if words.len() != 5 {
-        return Err(Fault::PriceWords);
+        return Err(Fault::NotFiveWords);
     }
-    let text = answer_price(heap, words[1], words[2], words[3], words[4])?;
-    Ok(Some(text))
-}
-
-fn duties(heap: Global, word: &str) -> Result<Vec<Duty>, Fault>
-    ensures { λ r. ⌜ made r (λ v. ListText DutyText (now (word .entry)) (vec-items v)) ⌝ }
-{
-    match read_list(heap, word) {
-        Ok(list) => Ok(list),
-        Err(Unlisted::NoItem) => Err(Fault::Duties),
-        Err(Unlisted::NoMemory) => Err(Fault::Memory),
+    match answer_price(heap, words[1], words[2], words[3], words[4]) {
+        Ok(text) => Ok(Some(text)),
+        Err(why) => Err(Fault::InPrice(why)),
     }
 }
 
-fn columns(heap: Global, word: &str) -> Result<Vec<u8>, Fault>
-    ensures { λ r. ⌜ made r (λ v. ListText (NumberText 8) (now (word .entry)) (vec-items v)) ⌝ }
+fn list_or<T: Item>(heap: Global, word: &str, fault: PriceFault) -> Result<Vec<T>, PriceFault>
+    ensures { λ r. ⌜ Cases r (λ v. ListText text (now (word .entry)) (vec-items v)) (λ e. ((e ≡ fault) × NoList text (now (word .entry))) ⊎ (e ≡ NoMemoryLeft)) ⌝ }
 {
     match read_list(heap, word) {
         Ok(list) => Ok(list),
-        Err(Unlisted::NoItem) => Err(Fault::Columns),
-        Err(Unlisted::NoMemory) => Err(Fault::Memory),
+        Err(Unlisted::NoItem) => Err(fault),
+        Err(Unlisted::NoMemory) => Err(PriceFault::NoMemoryLeft),
     }
 }
 
@@ -89,25 +86,27 @@ fn price_text(heap: Global, price: Price) -> Result<String, AllocError>
 
 fn answer_price(
     heap: Global,
-    kind_word: &str,
-    earlier_word: &str,
-    later_word: &str,
-    roster_word: &str,
-) -> Result<String, Fault>
-    ensures { λ r. ⌜ made r (λ s. PriceReply (now («kind_word» .entry)) (now («earlier_word» .entry)) (now («later_word» .entry)) (now («roster_word» .entry)) (string-bytes s)) ⌝ }
+    kind: &str,
+    earlier: &str,
+    later: &str,
+    roster: &str,
+) -> Result<String, PriceFault>
+    ensures { λ r. ⌜ PriceAnswered (record { kind-word = now (kind .entry); earlier-word = now (earlier .entry); later-word = now (later .entry); roster-word = now (roster .entry) }) r ⌝ }
 {
-    let Some(kind) = read_kind(kind_word) else {
-        return Err(Fault::Kind);
+    let Some(kind) = read_kind(kind) else {
+        return Err(PriceFault::NoKind);
     };
-    let earlier = duties(heap, earlier_word)?;
-    let later = duties(heap, later_word)?;
-    let roster = columns(heap, roster_word)?;
-    let price = price_roster(
+    let earlier = list_or::<DutyItem>(heap, earlier, PriceFault::NoDuties)?;
+    let later = list_or::<DutyItem>(heap, later, PriceFault::NoDuties)?;
+    let columns = list_or::<ColumnItem>(heap, roster, PriceFault::NoColumns)?;
+    match price_roster(
         heap,
         kind,
         earlier.as_slice(),
         later.as_slice(),
-        roster.as_slice(),
-    )?;
-    Ok(price_text(heap, price)?)
+        columns.as_slice(),
+    ) {
+        Ok(price) => Ok(price_text(heap, price)?),
+        Err(why) => Err(PriceFault::NotPriced(why)),
+    }
 }

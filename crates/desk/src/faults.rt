@@ -1,39 +1,46 @@
-// What a line that is no request lacks. Each is printed as what was expected.
+// Why a line gets no reply. Each is printed as what was expected.
+ghost use mathlib.Core.Path.{_≡_};
+ghost use Rattle.desk.specs.declared.faults.Fault.the-variants.{OutOfMemory};
+ghost use Rattle.desk.specs.declared.faults.PriceFault.the-variants.{NoMemoryLeft};
 use crate::price::Unpriced;
 use std::alloc::AllocError;
-use std::alloc::Refused;
 use std::fmt;
 
 #[derive(Clone, Copy)]
+pub enum PriceFault {
+    NoKind,
+    NoDuties,
+    NoColumns,
+    NotPriced(Unpriced),
+    NoMemoryLeft,
+}
+
+#[derive(Clone, Copy)]
 pub enum Fault {
-    Memory,
-    LineTooLong,
-    Text,
-    Request,
-    PriceWords,
-    Kind,
-    Duties,
-    Columns,
-    Unpriced(Unpriced),
+    NotText,
+    NoRequest,
+    NotFiveWords,
+    InPrice(PriceFault),
+    OutOfMemory,
+}
+
+pub impl From<AllocError> for PriceFault as PriceFaultFromAlloc {
+    ghost converts = { λ _ r. r ≡ NoMemoryLeft };
+
+    fn from(_e: AllocError) -> PriceFault {
+        PriceFault::NoMemoryLeft
+    }
 }
 
 pub impl From<AllocError> for Fault as FaultFromAlloc {
+    ghost converts = { λ _ r. r ≡ OutOfMemory };
+
     fn from(_e: AllocError) -> Fault {
-        Fault::Memory
+        Fault::OutOfMemory
     }
 }
 
-pub impl<T: Drop> From<Refused<T>> for Fault as FaultFromRefused {
-    fn from(_e: Refused<T>) -> Fault {
-        Fault::Memory
-    }
-}
-
-pub impl From<Unpriced> for Fault as FaultFromUnpriced {
-    fn from(e: Unpriced) -> Fault {
-        Fault::Unpriced(e)
-    }
-}
+const MORE_MEMORY: &str = "expected more memory than there is";
 
 impl Unpriced {
     fn message(self) -> &'static str {
@@ -43,7 +50,19 @@ impl Unpriced {
             Unpriced::DutyTimes => "expected times up to 1439, and no finish before its start",
             Unpriced::NoRoster =>
                 "expected a column below the number of duties for each duty, and none twice",
-            Unpriced::NoMemory => "expected more memory than there is",
+            Unpriced::NoMemory => MORE_MEMORY,
+        }
+    }
+}
+
+impl PriceFault {
+    fn message(self) -> &'static str {
+        match self {
+            PriceFault::NoKind => "expected the kind total, worst or class",
+            PriceFault::NoDuties => "expected duties as START-FINISH,START-FINISH,..",
+            PriceFault::NoColumns => "expected a roster as COLUMN,COLUMN,..",
+            PriceFault::NotPriced(why) => why.message(),
+            PriceFault::NoMemoryLeft => MORE_MEMORY,
         }
     }
 }
@@ -51,15 +70,11 @@ impl Unpriced {
 impl Fault {
     fn message(self) -> &'static str {
         match self {
-            Fault::Memory => "expected more memory than there is",
-            Fault::LineTooLong => "expected a line of at most 1048576 bytes",
-            Fault::Text => "expected text in UTF-8",
-            Fault::Request => "expected a request: price",
-            Fault::PriceWords => "expected price KIND EARLIER LATER ROSTER",
-            Fault::Kind => "expected the kind total, worst or class",
-            Fault::Duties => "expected duties as START-FINISH,START-FINISH,..",
-            Fault::Columns => "expected a roster as COLUMN,COLUMN,..",
-            Fault::Unpriced(why) => why.message(),
+            Fault::NotText => "expected text in UTF-8",
+            Fault::NoRequest => "expected a request: price",
+            Fault::NotFiveWords => "expected price KIND EARLIER LATER ROSTER",
+            Fault::InPrice(why) => why.message(),
+            Fault::OutOfMemory => MORE_MEMORY,
         }
     }
 }

@@ -7,8 +7,8 @@ mod roster;
 mod words;
 
 use answers::answer;
-use faults::Fault;
 use faults::FaultDisplay;
+use lines::LINE_LIMIT;
 use lines::Line;
 use lines::Next;
 use std::io;
@@ -28,10 +28,7 @@ fn main(rt: LibcRuntime) -> io::Result<()> {
     for _ in 0..u64::MAX {
         match line.read(&mut input)? {
             Next::Whole => reply(&rt, line.as_slice())?,
-            Next::TooLong => {
-                let fault = Fault::LineTooLong;
-                println!(rt, "error: {fault}")?
-            }
+            Next::TooLong => println!(rt, "error: expected a line of at most {LINE_LIMIT} bytes")?,
             Next::End => break,
         }
     }
