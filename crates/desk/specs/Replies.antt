@@ -92,6 +92,10 @@ WordsReplied words (Err OutOfMemory) = Unit {0}
 abbrev pub Comment : List ℕ → Type 0
 Comment line = (rest : List ℕ) × (line ≡ codes "#" ++ rest)
 
--- what is answered to a line: nothing to a comment, an error to what is no text, and otherwise what is answered to its words; memory may be wanting
+-- what is answered to a text: what is answered to its words; memory may be wanting
+abbrev pub TextReplied : {A : Type 0} → List ℕ → Result (Option (String A)) Fault → Type 0
+TextReplied line r = (r ≡ Err OutOfMemory) ⊎ ((words : List (List ℕ)) × WordsOf line words × WordsReplied words r)
+
+-- what is answered to a line: nothing to a comment, an error to what is no text, and otherwise what is answered to the text
 abbrev pub Replied : {A : Type 0} → List ℕ → Result (Option (String A)) Fault → Type 0
-Replied {A} line r = (Comment line × (r ≡ Ok None)) ⊎ (((Utf8 line → ⊥) × (r ≡ Err NotText)) ⊎ ((r ≡ Err OutOfMemory) ⊎ ((words : List (List ℕ)) × WordsOf line words × WordsReplied words r)))
+Replied line r = (Comment line × (r ≡ Ok None)) ⊎ ((Comment line → ⊥) × (((Utf8 line → ⊥) × (r ≡ Err NotText)) ⊎ (Utf8 line × TextReplied line r)))
