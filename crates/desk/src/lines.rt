@@ -3,7 +3,10 @@ ghost use mathlib.Core.Path.{_≡_};
 ghost use mathlib.Core.Bool.{cond};
 ghost use mathlib.Core.List.{[], _∷_, _++_};
 ghost use Prim.Native.Nat.{_≤_};
+ghost use lib.Dec.{ltb};
+ghost use Rattle.desk.specs.Lines.{Holds};
 ghost use Rattle.std.specs.Of.Vec.{vec-cap, vec-items, vec-len};
+ghost use Rattle.std.specs.Vec.{made};
 use std::alloc::AllocError;
 use std::alloc::Global;
 use std::io;
@@ -54,7 +57,8 @@ impl Line {
 
     // Adds a byte, or answers that there is no room for it.
     fn keep(&mut self, byte: u8) -> bool
-        ensures { λ r. ⌜ vec-items (now (self .exit) .bytes) ≡ cond r (vec-items (now (self .entry) .bytes) ++ byte ∷ []) (vec-items (now (self .entry) .bytes)) ⌝ }
+        ensures room { λ r. ⌜ r ≡ ltb (vec-len (now (self .entry) .bytes)) 1_048_576 ⌝ }
+        ensures items { λ r. ⌜ vec-items (now (self .exit) .bytes) ≡ cond r (vec-items (now (self .entry) .bytes) ++ byte ∷ []) (vec-items (now (self .entry) .bytes)) ⌝ }
     {
         let room = self.bytes.len() < LINE_LIMIT;
         if room {
@@ -64,14 +68,19 @@ impl Line {
     }
 
     // Reads up to the next end of a line. The input may end in the middle of a line, which then counts as a whole one.
-    pub fn read<R: Read>(&mut self, input: &mut R) -> io::Result<Next> {
+    pub fn read<R: Read>(&mut self, input: &mut R) -> io::Result<Next>
+        ensures { λ r. ⌜ made r (λ next. Holds next (vec-items (now (self .exit) .bytes))) ⌝ }
+    {
         self.bytes.clear();
         let mut fits = true;
         for _ in 0..u64::MAX {
             match next_byte(input)? {
                 None if self.bytes.is_empty() => return Ok(Next::End),
-                None | Some(b'\n') => break,
+                None => break,
                 Some(byte) => {
+                    if byte == b'\n' {
+                        break;
+                    }
                     let kept = self.keep(byte);
                     fits = fits && kept;
                 }
