@@ -6,6 +6,7 @@ use mathlib.Core.Logic.{⊎-elim, inr}
 use Prim.Native.Nat.{ℕ, zero, suc, _+_, _<_}
 use native.Mathlib.Omega.{arith}
 use denote.Ref.{RefT}
+use lib.Chars.{codes}
 use lib.ListN.{length, getD, take, drop, length-append}
 use Rattle.std.specs.declared.option.Option.the-variants.{Some, None}
 use Rattle.std.specs.declared.result.Result.{Result}
@@ -92,10 +93,10 @@ module _ {X : Type 0} (Text : List ℕ → X → Type 0) (parts : List (RefT (Li
   text-of-none none = (i, omega (arith, length-behind parts), λ x text. none x (subst (λ l. Text l x) (getD-behind parts i nowhere within) text))
 
 -- a word cut at its commas, and what its pieces give
-pub listed : {X A : Type 0} (Text : List ℕ → X → Type 0) (word : List ℕ) (pieces : List (List ℕ)) (r : Result (Vec X A) Unlisted) → CutAtCommas word pieces → PiecesRead Text pieces r → Listed Text word r
-listed Text word pieces (Ok v) cut read = inr (pieces, cut, read)
-listed Text word pieces (Err NoItem) cut read = (pieces, cut, read)
-listed Text word pieces (Err NoMemory) cut read = tt
+pub listed : {X A : Type 0} (Text : List ℕ → X → Type 0) (word : List ℕ) (pieces : List (List ℕ)) (r : Result (Vec X A) Unlisted) → (word ≡ codes "." → ⊥) → CutAtCommas word pieces → PiecesRead Text pieces r → Listed Text word r
+listed Text word pieces (Ok v) items cut read = inr (pieces, cut, read)
+listed Text word pieces (Err NoItem) items cut read = (items, (pieces, cut, read))
+listed Text word pieces (Err NoMemory) items cut read = tt
 
 -- the words found are the first of the line's, and those of rest come behind them
 abbrev pub WordsSofar : List ℕ → List ℕ → List (List ℕ) → Type 0

@@ -65,11 +65,19 @@ pub record PriceAnswer (q : PriceWords) (answer : Result Price Unpriced) : Type 
 abbrev pub PriceReply : PriceWords → List ℕ → Type 0
 PriceReply q reply = (price : Price) × PriceAnswer q (Ok price) × (reply ≡ codes "ok " ++ price-text price)
 
--- the error for one that is not: its kind has no such name, a list of duties or the roster is no list, or it is refused; memory may be wanting
+-- a kind has that name
+abbrev pub Named : List ℕ → Type 0
+Named word = (k : Kind) × (word ≡ kind-name k)
+
+-- a word that lists duties
+abbrev pub ListsDuties : List ℕ → Type 0
+ListsDuties word = (ds : List Duty) × ListText DutyText word ds
+
+-- the error for one that is not: the first word that cannot be read, the kind, the two lists of duties or the roster, or else why it is refused; memory may be wanting
 abbrev pub PriceError : PriceWords → PriceFault → Type 0
-PriceError q NoKind = (k : Kind) → q .kind-word ≡ kind-name k → ⊥
-PriceError q NoDuties = NoList DutyText (q .earlier-word) ⊎ NoList DutyText (q .later-word)
-PriceError q NoColumns = NoList (NumberText 8) (q .roster-word)
+PriceError q NoKind = Named (q .kind-word) → ⊥
+PriceError q NoDuties = Named (q .kind-word) × (NoList DutyText (q .earlier-word) ⊎ (ListsDuties (q .earlier-word) × NoList DutyText (q .later-word)))
+PriceError q NoColumns = Named (q .kind-word) × ListsDuties (q .earlier-word) × ListsDuties (q .later-word) × NoList (NumberText 8) (q .roster-word)
 PriceError q (NotPriced why) = PriceAnswer q (Err why)
 PriceError q NoMemoryLeft = Unit {0}
 

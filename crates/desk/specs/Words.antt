@@ -79,11 +79,11 @@ PiecesRead Text pieces (Err NoMemory) = Unit {0}
 abbrev pub ListText : {X : Type 0} → (List ℕ → X → Type 0) → List ℕ → List X → Type 0
 ListText Text word xs = ((word ≡ codes ".") × (xs ≡ [])) ⊎ ((pieces : List (List ℕ)) × CutAtCommas word pieces × Texts Text pieces xs)
 
--- a word that lists no items: some piece between its commas is no item's text
+-- a word that is no list: it is not `.`, and some piece between its commas is no item's text
 abbrev pub NoList : {X : Type 0} → (List ℕ → X → Type 0) → List ℕ → Type 0
-NoList Text word = (pieces : List (List ℕ)) × CutAtCommas word pieces × NoText Text pieces
+NoList Text word = (word ≡ codes "." → ⊥) × ((pieces : List (List ℕ)) × CutAtCommas word pieces × NoText Text pieces)
 
--- what is read from a word: the items that it lists, or none where it lists no items; memory may be wanting
+-- what is read from a word: the items that it lists, or none where it is no list; memory may be wanting
 abbrev pub Listed : {X A : Type 0} → (List ℕ → X → Type 0) → List ℕ → Result (Vec X A) Unlisted → Type 0
 Listed Text word (Ok v) = ListText Text word (vec-items v)
 Listed Text word (Err NoItem) = NoList Text word
