@@ -15,6 +15,8 @@ use std::io::Read;
 
 pub const LINE_LIMIT: usize = 1_048_576;
 
+const LINE_END: u8 = b'\n';
+
 #[derive(Drop)]
 pub struct Line {
     bytes: Vec<u8>,
@@ -78,7 +80,7 @@ impl Line {
                 None if self.bytes.is_empty() => return Ok(Next::End),
                 None => break,
                 Some(byte) => {
-                    if byte == b'\n' {
+                    if byte == LINE_END {
                         break;
                     }
                     let kept = self.keep(byte);

@@ -21,6 +21,6 @@ loop-again g c =
       | else-fits w ↦ λ e. full-line (vec-len old) room (told .room) (c .loop .inv .1 (w .if-fits .left))
     ]
     in (
-      kept-lacks (vec-items old) (vec-items new) (c .in-Some .byte) room (told .items) (c .loop .inv .0) (c .if-byte-eq10 .left),
+      kept-lacks (vec-items old) (vec-items new) (c .in-Some .byte) room (told .items) (c .loop .inv .0) (c .if-byte-eq-LINE-END .left),
       λ e. new .ok .0 ∙ not-kept (vec-items old) (vec-items new) (c .in-Some .byte) room (told .items) (none e) ∙ sym (old .ok .0) ∙ no-room (vec-len old) room (told .room) (c .loop .self .few) (none e),
     )
