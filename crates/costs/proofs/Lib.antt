@@ -1,5 +1,6 @@
 pub mod BigEndian
 pub mod Fronts
+pub mod NumberKinds
 pub mod PlainCosts
 pub mod Rows
 pub mod Same
