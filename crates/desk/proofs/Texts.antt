@@ -77,7 +77,7 @@ getD-behind [] i r h = absurd (omega arith)
 getD-behind (p ∷ parts) zero r h = refl
 getD-behind (p ∷ parts) (suc i) r h = getD-behind parts i r (omega arith)
 
-length-behind : (parts : List (RefT (List ℕ))) → length (behind parts) ≡ length parts
+pub length-behind : (parts : List (RefT (List ℕ))) → length (behind parts) ≡ length parts
 length-behind [] = refl
 length-behind (p ∷ parts) = ap suc (length-behind parts)
 

@@ -53,8 +53,9 @@ pub record DutyText (bs : List ℕ) (d : Duty) : Type 0 where
   pub start-is : NumberText 16 start-text (d .start)
   pub finish-is : NumberText 16 finish-text (d .finish)
 
--- a word cut at its commas
+-- a word cut at its commas, into one piece or more
 pub record CutAtCommas (word : List ℕ) (pieces : List (List ℕ)) : Type 0 where
+  pub some : 0 < length pieces
   pub joined : word ≡ rejoined 44 pieces
   pub no-comma : All (Lacks 44) pieces
 

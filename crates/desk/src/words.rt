@@ -1,7 +1,7 @@
 // The words of a request.
 ghost use mathlib.Core.Path.{_≡_};
 ghost use mathlib.Core.List.{List, map};
-ghost use Prim.Native.Nat.{ℕ};
+ghost use Prim.Native.Nat.{ℕ, _<_};
 ghost use Rattle.desk.specs.Words.{WordsOf, kind-name, NumberText, DutyText, PiecesRead, Listed};
 ghost use Rattle.std.specs.Of.Vec.{vec-items, vec-len};
 ghost use Rattle.std.specs.Pieces.{Lacks, rejoined};
@@ -101,6 +101,7 @@ pub impl Item for u8 as ColumnItem {
 }
 
 fn pieces<'a>(heap: Global, word: &'a str) -> Result<Vec<&'a str>, AllocError>
+    ensures some { λ r. ⌜ made r (λ v. 0 < vec-len v) ⌝ }
     ensures joined { λ r. ⌜ made r (λ v. now (word .entry) ≡ rejoined 44 (map (λ x. x .now) (vec-items v))) ⌝ }
     ensures apart { λ r. ⌜ made r (λ v. Every (λ x. Lacks 44 (x .now)) (vec-items v) 0 (vec-len v)) ⌝ }
 {
