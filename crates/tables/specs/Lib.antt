@@ -1,0 +1,5 @@
+pub mod Lent
+pub mod Promises
+pub mod Rosters
+pub mod Steps
+pub mod Tables
