@@ -3,7 +3,7 @@ ghost use mathlib.Core.Path.{_≡_};
 ghost use Prim.Native.Nat.{_≤_};
 ghost use lib.Count.{ones};
 ghost use Rattle.std.specs.Orderings.{Decides};
-ghost use Rattle.tables.specs.Steps.{in-set, excess, times, value, Absorbed};
+ghost use Rattle.tables.specs.Steps.{in-set, excess, times, taken, value, Absorbed};
 use crate::values::Size;
 use crate::values::Step;
 use costs::kind::CostKind;
@@ -48,20 +48,36 @@ pub fn compose_times<K: CostKind>(cost: K, count: usize) -> K
     all
 }
 
-// What the steps take off every roster.
+impl<K: CostKind> Step<K> {
+    // What the step takes off every roster: its amount, as often as its excess says.
+    pub fn taken(&self, size: Size) -> K
+        ensures { λ r. ⌜ r ≡ taken operations (size .n) (now (self .entry)) ⌝ }
+    {
+        compose_times(self.amount, self.excess(size))
+    }
+}
+
+// What the steps take off every roster, one after the other.
 pub fn value<K: CostKind>(steps: &[Step<K>], size: Size) -> K
     ensures { λ r. ⌜ r ≡ value operations (size .n) (now (steps .entry)) ⌝ }
 {
     let mut z = K::empty();
     for step in steps {
-        z = z.compose(compose_times(step.amount, step.excess(size)));
+        z = z.compose(step.taken(size));
     }
     z
 }
 
-// Whether the cell adds nothing to the value `z`. As `z` is never above the two together, one comparison decides it.
+// Whether a cell leaves the value `z` where it is, or lowers it.
+fn adds_nothing<C: CostKind>(z: C, cell: C) -> bool
+    ensures { λ r. ⌜ r ≡ operations .at-most (operations .compose z cell) z ⌝ }
+{
+    z.compose(cell).at_most(z)
+}
+
+// Whether the cell is absorbed by the value `z`. No cell lowers a value, so one comparison decides it.
 pub fn absorbs<C: CostKind>(z: C, cell: C) -> bool
     ensures { λ r. ⌜ Decides r (Absorbed operations z cell) ⌝ }
 {
-    z.compose(cell).at_most(z)
+    adds_nothing(z, cell)
 }
