@@ -2,4 +2,3 @@ pub mod Lines
 pub mod Prices
 pub mod Replies
 pub mod Rosters
-pub mod Words

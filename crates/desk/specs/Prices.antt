@@ -11,6 +11,8 @@ use Rattle.costs.specs.Worsts.{worst-written}
 use Rattle.costs.specs.Written.{Written}
 use Rattle.costs.specs.declared.values.Duty.{Duty}
 use Rattle.costs.specs.declared.values.Widened.{Widened}
+use Rattle.words.specs.declared.kinds.Kind.{Kind}
+use Rattle.words.specs.declared.kinds.Kind.the-variants.{Total, Worst, Class}
 use Rattle.std.specs.declared.result.Result.{Result}
 use Rattle.std.specs.declared.result.Result.the-variants.{Ok, Err}
 use Rattle.desk.specs.Rosters.{Roster}
@@ -18,8 +20,6 @@ use Rattle.desk.specs.declared.price.Price.{Price}
 use Rattle.desk.specs.declared.price.Price.the-variants.{InTotal, InWorst, InClass}
 use Rattle.desk.specs.declared.price.Unpriced.{Unpriced}
 use Rattle.desk.specs.declared.price.Unpriced.the-variants.{DutyCount, LaterCount, DutyTimes, NoRoster, NoMemory}
-use Rattle.desk.specs.declared.words.Kind.{Kind}
-use Rattle.desk.specs.declared.words.Kind.the-variants.{Total, Worst, Class}
 
 -- stands where a list has no duty
 abbrev pub no-duty : Duty

@@ -15,8 +15,9 @@ use Rattle.std.specs.declared.result.Result.the-variants.{Ok, Err}
 use Rattle.std.specs.declared.string.String.{String}
 use Rattle.costs.specs.declared.values.Duty.{Duty}
 use Rattle.costs.specs.declared.values.Widened.the-variants.{Allowed, Forbidden}
+use Rattle.words.specs.Words.{WordsOf, kind-name, NumberText, DutyText, ListText, NoList}
+use Rattle.words.specs.declared.kinds.Kind.{Kind}
 use Rattle.desk.specs.Prices.{Answered}
-use Rattle.desk.specs.Words.{WordsOf, kind-name, NumberText, DutyText, ListText, NoList}
 use Rattle.desk.specs.declared.faults.Fault.{Fault}
 use Rattle.desk.specs.declared.faults.Fault.the-variants.{NotText, NoRequest, NotFiveWords, InPrice, OutOfMemory}
 use Rattle.desk.specs.declared.faults.PriceFault.{PriceFault}
@@ -24,7 +25,6 @@ use Rattle.desk.specs.declared.faults.PriceFault.the-variants.{NoKind, NoDutie
 use Rattle.desk.specs.declared.price.Price.{Price}
 use Rattle.desk.specs.declared.price.Price.the-variants.{InTotal, InWorst, InClass}
 use Rattle.desk.specs.declared.price.Unpriced.{Unpriced}
-use Rattle.desk.specs.declared.words.Kind.{Kind}
 
 -- a price as text: minutes, class:minutes, or forbidden
 abbrev pub price-text : Price → List ℕ

@@ -4,7 +4,6 @@ mod faults;
 mod lines;
 mod price;
 mod roster;
-mod words;
 
 use answers::answer;
 use faults::FaultDisplay;

@@ -6,7 +6,6 @@ ghost use Rattle.desk.specs.Rosters.{Roster};
 ghost use Rattle.std.specs.Of.Vec.{vec-items};
 ghost use Rattle.std.specs.Vec.{made};
 use crate::roster::is_roster;
-use crate::words::Kind;
 use costs::class::ClassWritten;
 use costs::composition::class_cost;
 use costs::composition::total_cost;
@@ -23,6 +22,7 @@ use costs::values::Worst;
 use costs::worst::WorstWritten;
 use std::alloc::AllocError;
 use std::alloc::Global;
+use words::kinds::Kind;
 
 #[derive(Clone, Copy)]
 pub enum Price {

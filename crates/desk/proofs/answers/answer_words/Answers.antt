@@ -6,7 +6,8 @@ use denote.Ref.{RefT}
 use lib.Chars.{codes}
 use lib.ListN.{length, getD, drop}
 use Rattle.desk.specs.Replies.{PriceWords, request}
-use Rattle.desk.proofs.Texts.{nowhere, behind, no-words, first-and-others, length-others, five-words, same-text, other-text}
+use Rattle.words.proofs.Pieces.{nowhere, behind}
+use Rattle.desk.proofs.Texts.{no-words, first-and-others, length-others, five-words, same-text, other-text}
 use Rattle.desk.proofs.answers.answer_words.Needs as need
 
 -- the words of a price request behind the first
