@@ -1,5 +1,6 @@
 -- The worked examples that are proved, in one statement. Assumes nothing.
 use mathlib.Core.Path.{_≡_}
+use mathlib.Core.List.{List, [], _∷_}
 use Prim.Native.Nat.{ℕ, _-_, _^_, min}
 use native.Mathlib.Omega.{arith}
 use Rattle.costs.specs.Classes.{class-operations, class-written}
@@ -9,8 +10,14 @@ use Rattle.costs.specs.Worsts.{worst-operations, worst-written}
 use Rattle.costs.specs.declared.values.Class.{Class}
 use Rattle.costs.specs.declared.values.Duty.{Duty}
 use Rattle.costs.specs.declared.values.Total.{Total}
-use Rattle.costs.specs.declared.values.Widened.the-variants.{Forbidden}
+use Rattle.costs.specs.Wide.{widened}
+use Rattle.costs.specs.declared.values.Widened.{Widened}
+use Rattle.costs.specs.declared.values.Widened.the-variants.{Allowed, Forbidden}
 use Rattle.costs.specs.declared.values.Worst.{Worst}
+use Rattle.tables.specs.Promises.{Settled}
+use Rattle.tables.specs.Steps.{Admissible, value, wide}
+use Rattle.tables.specs.Tables.{grid}
+use Rattle.tables.specs.declared.values.Step.{Step}
 
 -- costs by their numbers; `min` only shows that every number fits
 abbrev pub total : ℕ → Total
@@ -24,6 +31,17 @@ class k m = record { class = min k (2 ^ 8 - 1); minutes = min m (2 ^ 64 - 1); by
 
 abbrev pub duty : ℕ → ℕ → Duty
 duty start finish = record { start = start; finish = finish }
+
+-- a table of two rows and two columns, all allowed
+abbrev pub two-rows : {C : Type 0} → C → C → C → C → List (Widened C)
+two-rows a b c d = Allowed a ∷ Allowed b ∷ Allowed c ∷ Allowed d ∷ []
+
+abbrev pub threes : List (Widened Total)
+threes = two-rows (total 3) (total 3) (total 3) (total 3)
+
+-- a step on both rows and both columns
+abbrev pub step-by-three : Step Total
+step-by-three = record { rows = 3; columns = 3; amount = total 3 }
 
 pub record Worked : Type 0 where
   -- 1:9 composed with 2:1 is 2:1
@@ -40,3 +58,12 @@ pub record Worked : Type 0 where
   pub forbidden-in-total : (s f : ℕ) → gauged total-written (duty s 1201) (duty 360 f) ≡ Forbidden
   pub forbidden-in-worst : (s f : ℕ) → gauged worst-written (duty s 1201) (duty 360 f) ≡ Forbidden
   pub forbidden-in-class : (s f : ℕ) → gauged class-written (duty s 1201) (duty 360 f) ≡ Forbidden
+  -- rows 3 3 and 3 3 in total: the step on all rows and columns with amount 3 may be made, and its value is 6
+  pub threes-admissible : Admissible (widened total-operations) 2 (grid (widened total-operations) 2 threes) (wide step-by-three)
+  pub threes-value : value total-operations 2 (step-by-three ∷ []) ≡ total 6
+  -- rows 0 5 and 4 8 in total: roster 0 1 costs 8, and no roster costs less
+  pub settled-in-total : Settled total-operations 2 (two-rows (total 0) (total 5) (total 4) (total 8)) (total 8) (0 ∷ 1 ∷ [])
+  -- the same in worst: roster 1 0, cost 5
+  pub settled-in-worst : Settled worst-operations 2 (two-rows (worst 0) (worst 5) (worst 4) (worst 8)) (worst 5) (1 ∷ 0 ∷ [])
+  -- rows 0:0 1:50 and 1:30 2:1 in class: roster 1 0, cost 1:80
+  pub settled-in-class : Settled class-operations 2 (two-rows (class 0 0) (class 1 50) (class 1 30) (class 2 1)) (class 1 80) (1 ∷ 0 ∷ [])
