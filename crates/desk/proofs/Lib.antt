@@ -1,4 +1,4 @@
 pub mod Chosen
 pub mod Kept
-pub mod Seats
 pub mod Texts
+pub mod Weights

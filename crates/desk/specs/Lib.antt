@@ -1,4 +1,4 @@
 pub mod Lines
 pub mod Prices
 pub mod Replies
-pub mod Rosters
+pub mod Weighing

@@ -1,8 +1,11 @@
 -- What a roster by hand costs: the chosen cells of the rest gauge, composed. Assumes nothing.
 use mathlib.Core.Path.{_≡_}
-use mathlib.Core.List.{List, [], _∷_}
+use mathlib.Core.List.{List, [], _∷_, _++_}
 use Prim.Native.Nat.{ℕ, _≤_}
+use lib.Chars.{codes}
 use lib.ListN.{length, getD}
+use Rattle.std.specs.Written.{decimal}
+use Rattle.words.specs.Words.{kind-name}
 use Rattle.costs.specs.Classes.{class-written}
 use Rattle.costs.specs.Gauge.{WellFormed, gauged}
 use Rattle.costs.specs.Plain.{CostOf, Sum, Highest, HighestClass}
@@ -11,11 +14,12 @@ use Rattle.costs.specs.Worsts.{worst-written}
 use Rattle.costs.specs.Written.{Written}
 use Rattle.costs.specs.declared.values.Duty.{Duty}
 use Rattle.costs.specs.declared.values.Widened.{Widened}
+use Rattle.costs.specs.declared.values.Widened.the-variants.{Allowed, Forbidden}
 use Rattle.words.specs.declared.kinds.Kind.{Kind}
 use Rattle.words.specs.declared.kinds.Kind.the-variants.{Total, Worst, Class}
 use Rattle.std.specs.declared.result.Result.{Result}
 use Rattle.std.specs.declared.result.Result.the-variants.{Ok, Err}
-use Rattle.desk.specs.Rosters.{Roster}
+use Rattle.tables.specs.Rosters.{Roster}
 use Rattle.desk.specs.declared.price.Price.{Price}
 use Rattle.desk.specs.declared.price.Price.the-variants.{InTotal, InWorst, InClass}
 use Rattle.desk.specs.declared.price.Unpriced.{Unpriced}
@@ -58,3 +62,16 @@ Answered kind earlier later columns (Err LaterCount) = Counted earlier × (lengt
 Answered kind earlier later columns (Err DutyTimes) = Counted earlier × (length later ≡ length earlier) × (Timed earlier later → ⊥)
 Answered kind earlier later columns (Err NoRoster) = Counted earlier × Timed earlier later × (Roster (length earlier) columns → ⊥)
 Answered kind earlier later columns (Err NoMemory) = Counted earlier × Timed earlier later × Roster (length earlier) columns
+
+-- a price as text: minutes, class:minutes, or forbidden
+abbrev pub price-text : Price → List ℕ
+price-text (InTotal (Allowed c)) = decimal (c .minutes)
+price-text (InTotal Forbidden) = codes "forbidden"
+price-text (InWorst (Allowed c)) = decimal (c .minutes)
+price-text (InWorst Forbidden) = codes "forbidden"
+price-text (InClass (Allowed c)) = decimal (c .class) ++ (codes ":" ++ decimal (c .minutes))
+price-text (InClass Forbidden) = codes "forbidden"
+
+-- a kind has that name
+abbrev pub Named : List ℕ → Type 0
+Named word = (k : Kind) × (word ≡ kind-name k)

@@ -7,33 +7,22 @@ use lib.Chars.{codes}
 use lib.ListN.{length}
 use Rattle.std.specs.Of.String.{string-bytes}
 use Rattle.std.specs.Text.{Utf8}
-use Rattle.std.specs.Written.{decimal}
 use Rattle.std.specs.declared.option.Option.{Option}
 use Rattle.std.specs.declared.option.Option.the-variants.{Some, None}
 use Rattle.std.specs.declared.result.Result.{Result}
 use Rattle.std.specs.declared.result.Result.the-variants.{Ok, Err}
 use Rattle.std.specs.declared.string.String.{String}
 use Rattle.costs.specs.declared.values.Duty.{Duty}
-use Rattle.costs.specs.declared.values.Widened.the-variants.{Allowed, Forbidden}
 use Rattle.words.specs.Words.{WordsOf, kind-name, NumberText, DutyText, ListText, NoList}
 use Rattle.words.specs.declared.kinds.Kind.{Kind}
-use Rattle.desk.specs.Prices.{Answered}
+use Rattle.desk.specs.Prices.{price-text, Named, Answered}
+use Rattle.desk.specs.Weighing.{TableWords, weigh-request, WeighReply, WeighError}
 use Rattle.desk.specs.declared.faults.Fault.{Fault}
-use Rattle.desk.specs.declared.faults.Fault.the-variants.{NotText, NoRequest, NotFiveWords, InPrice, OutOfMemory}
+use Rattle.desk.specs.declared.faults.Fault.the-variants.{NotText, NoRequest, NotPrice, NotWeigh, InPrice, InWeigh, OutOfMemory}
 use Rattle.desk.specs.declared.faults.PriceFault.{PriceFault}
 use Rattle.desk.specs.declared.faults.PriceFault.the-variants.{NoKind, NoDuties, NoColumns, NotPriced, NoMemoryLeft}
 use Rattle.desk.specs.declared.price.Price.{Price}
-use Rattle.desk.specs.declared.price.Price.the-variants.{InTotal, InWorst, InClass}
 use Rattle.desk.specs.declared.price.Unpriced.{Unpriced}
-
--- a price as text: minutes, class:minutes, or forbidden
-abbrev pub price-text : Price → List ℕ
-price-text (InTotal (Allowed c)) = decimal (c .minutes)
-price-text (InTotal Forbidden) = codes "forbidden"
-price-text (InWorst (Allowed c)) = decimal (c .minutes)
-price-text (InWorst Forbidden) = codes "forbidden"
-price-text (InClass (Allowed c)) = decimal (c .class) ++ (codes ":" ++ decimal (c .minutes))
-price-text (InClass Forbidden) = codes "forbidden"
 
 -- the words of a price request behind the first
 pub record PriceWords : Type 0 where
@@ -65,10 +54,6 @@ pub record PriceAnswer (q : PriceWords) (answer : Result Price Unpriced) : Type 
 abbrev pub PriceReply : PriceWords → List ℕ → Type 0
 PriceReply q reply = (price : Price) × PriceAnswer q (Ok price) × (reply ≡ codes "ok " ++ price-text price)
 
--- a kind has that name
-abbrev pub Named : List ℕ → Type 0
-Named word = (k : Kind) × (word ≡ kind-name k)
-
 -- a word that lists duties
 abbrev pub ListsDuties : List ℕ → Type 0
 ListsDuties word = (ds : List Duty) × ListText DutyText word ds
@@ -86,14 +71,17 @@ abbrev pub PriceAnswered : {A : Type 0} → PriceWords → Result (String A) Pri
 PriceAnswered q (Ok s) = PriceReply q (string-bytes s)
 PriceAnswered q (Err why) = PriceError q why
 
--- what is answered to a line's words: nothing if there are none, its reply to a price request, or an error
+-- what is answered to a line's words: nothing if there are none, its reply to a request, or an error
 abbrev pub WordsReplied : {A : Type 0} → List (List ℕ) → Result (Option (String A)) Fault → Type 0
 WordsReplied words (Ok None) = words ≡ []
-WordsReplied words (Ok (Some s)) = (q : PriceWords) × (words ≡ request q) × PriceReply q (string-bytes s)
+WordsReplied words (Ok (Some s)) =
+    ((q : PriceWords) × (words ≡ request q) × PriceReply q (string-bytes s)) ⊎ ((k : List ℕ) × (q : TableWords) × (words ≡ weigh-request k q) × WeighReply k q (string-bytes s))
 WordsReplied words (Err NotText) = ⊥
-WordsReplied words (Err NoRequest) = (first : List ℕ) × (others : List (List ℕ)) × (words ≡ first ∷ others) × (first ≡ codes "price" → ⊥)
-WordsReplied words (Err NotFiveWords) = (others : List (List ℕ)) × (words ≡ codes "price" ∷ others) × (length others ≡ 4 → ⊥)
+WordsReplied words (Err NoRequest) = (first : List ℕ) × (others : List (List ℕ)) × (words ≡ first ∷ others) × (first ≡ codes "price" → ⊥) × (first ≡ codes "weigh" → ⊥)
+WordsReplied words (Err NotPrice) = (others : List (List ℕ)) × (words ≡ codes "price" ∷ others) × (length others ≡ 4 → ⊥)
+WordsReplied words (Err NotWeigh) = (others : List (List ℕ)) × (words ≡ codes "weigh" ∷ others) × (length others ≡ 4 → ⊥)
 WordsReplied words (Err (InPrice why)) = (q : PriceWords) × (words ≡ request q) × PriceError q why
+WordsReplied words (Err (InWeigh why)) = (k : List ℕ) × (q : TableWords) × (words ≡ weigh-request k q) × WeighError k q why
 WordsReplied words (Err OutOfMemory) = Unit {0}
 
 -- a line that begins with #

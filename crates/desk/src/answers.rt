@@ -1,21 +1,20 @@
 // From a line to its answer.
 ghost use mathlib.Core.Path.{_≡_};
 ghost use mathlib.Core.List.{map, _++_};
-ghost use mathlib.Core.Logic.{_⊎_};
 ghost use lib.Chars.{codes};
-ghost use Rattle.desk.specs.Replies.{price-text, PriceAnswered, WordsReplied, Replied};
-ghost use Rattle.desk.specs.declared.faults.PriceFault.the-variants.{NoMemoryLeft};
+ghost use Rattle.desk.specs.Prices.{price-text};
+ghost use Rattle.desk.specs.Replies.{PriceAnswered, WordsReplied, Replied};
+ghost use Rattle.desk.specs.Weighing.{WeighAnswered};
 ghost use Rattle.std.specs.Of.String.{string-bytes};
-ghost use Rattle.std.specs.Of.Vec.{vec-items};
-ghost use Rattle.std.specs.Results.{Cases};
 ghost use Rattle.std.specs.Vec.{made};
-ghost use Rattle.words.specs.Words.{NumberText, DutyText, ListText, NoList};
 use crate::faults::Fault;
 use crate::faults::FaultFromAlloc;
 use crate::faults::PriceFault;
 use crate::faults::PriceFaultFromAlloc;
 use crate::price::Price;
 use crate::price::price_roster;
+use crate::weigh::WeighFault;
+use crate::weigh::weigh;
 use costs::show::ClassDisplay;
 use costs::show::TotalDisplay;
 use costs::show::WidenedDisplay;
@@ -27,10 +26,8 @@ use std::str::from_utf8;
 use words::cut::cut_words;
 use words::items::ColumnItem;
 use words::items::DutyItem;
-use words::items::Item;
 use words::kinds::read_kind;
-use words::lists::Unlisted;
-use words::lists::read_list;
+use words::lists::list_or;
 
 // The answer to a line; none to an empty line or a comment.
 pub fn answer(heap: Global, line: &[u8]) -> Result<Option<String>, Fault>
@@ -52,26 +49,25 @@ fn answer_words(heap: Global, words: &[&str]) -> Result<Option<String>, Fault>
     if words.is_empty() {
         return Ok(None);
     }
-    if words[0] != "price" {
-        return Err(Fault::NoRequest);
+    if words[0] == "price" {
+        if words.len() != 5 {
+            return Err(Fault::NotPrice);
+        }
+        return match answer_price(heap, words[1], words[2], words[3], words[4]) {
+            Ok(text) => Ok(Some(text)),
+            Err(why) => Err(Fault::InPrice(why)),
+        };
     }
-    if words.len() != 5 {
-        return Err(Fault::NotFiveWords);
+    if words[0] == "weigh" {
+        if words.len() != 5 {
+            return Err(Fault::NotWeigh);
+        }
+        return match answer_weigh(heap, words[1], words[2], words[3], words[4]) {
+            Ok(text) => Ok(Some(text)),
+            Err(why) => Err(Fault::InWeigh(why)),
+        };
     }
-    match answer_price(heap, words[1], words[2], words[3], words[4]) {
-        Ok(text) => Ok(Some(text)),
-        Err(why) => Err(Fault::InPrice(why)),
-    }
-}
-
-fn list_or<T: Item>(heap: Global, word: &str, fault: PriceFault) -> Result<Vec<T>, PriceFault>
-    ensures { λ r. ⌜ Cases r (λ v. ListText text (now (word .entry)) (vec-items v)) (λ e. ((e ≡ fault) × NoList text (now (word .entry))) ⊎ (e ≡ NoMemoryLeft)) ⌝ }
-{
-    match read_list(heap, word) {
-        Ok(list) => Ok(list),
-        Err(Unlisted::NoItem) => Err(fault),
-        Err(Unlisted::NoMemory) => Err(PriceFault::NoMemoryLeft),
-    }
+    Err(Fault::NoRequest)
 }
 
 fn price_text(heap: Global, price: Price) -> Result<String, AllocError>
@@ -96,9 +92,24 @@ fn answer_price(
     let Some(kind) = read_kind(kind) else {
         return Err(PriceFault::NoKind);
     };
-    let earlier = list_or::<DutyItem>(heap, earlier, PriceFault::NoDuties)?;
-    let later = list_or::<DutyItem>(heap, later, PriceFault::NoDuties)?;
-    let columns = list_or::<ColumnItem>(heap, roster, PriceFault::NoColumns)?;
+    let earlier = list_or::<Duty, PriceFault>(
+        heap,
+        earlier,
+        PriceFault::NoDuties,
+        PriceFault::NoMemoryLeft,
+    )?;
+    let later = list_or::<Duty, PriceFault>(
+        heap,
+        later,
+        PriceFault::NoDuties,
+        PriceFault::NoMemoryLeft,
+    )?;
+    let columns = list_or::<u8, PriceFault>(
+        heap,
+        roster,
+        PriceFault::NoColumns,
+        PriceFault::NoMemoryLeft,
+    )?;
     match price_roster(
         heap,
         kind,
@@ -108,5 +119,26 @@ fn answer_price(
     ) {
         Ok(price) => Ok(price_text(heap, price)?),
         Err(why) => Err(PriceFault::NotPriced(why)),
+    }
+}
+
+fn answer_weigh(
+    heap: Global,
+    kind: &str,
+    size: &str,
+    cells: &str,
+    roster: &str,
+) -> Result<String, WeighFault>
+    ensures { λ r. ⌜ WeighAnswered (now (kind .entry)) (record { size-word = now (size .entry); cells-word = now (cells .entry); roster-word = now (roster .entry) }) r ⌝ }
+{
+    let Some(kind) = read_kind(kind) else {
+        return Err(WeighFault::NoKind);
+    };
+    match weigh(heap, kind, size, cells, roster) {
+        Ok(price) => match price_text(heap, price) {
+            Ok(text) => Ok(text),
+            Err(_) => Err(WeighFault::NoMemoryLeft),
+        },
+        Err(why) => Err(why),
     }
 }

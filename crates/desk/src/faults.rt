@@ -3,6 +3,7 @@ ghost use mathlib.Core.Path.{_≡_};
 ghost use Rattle.desk.specs.declared.faults.Fault.the-variants.{OutOfMemory};
 ghost use Rattle.desk.specs.declared.faults.PriceFault.the-variants.{NoMemoryLeft};
 use crate::price::Unpriced;
+use crate::weigh::WeighFault;
 use std::alloc::AllocError;
 use std::fmt;
 
@@ -19,8 +20,10 @@ pub enum PriceFault {
 pub enum Fault {
     NotText,
     NoRequest,
-    NotFiveWords,
+    NotPrice,
+    NotWeigh,
     InPrice(PriceFault),
+    InWeigh(WeighFault),
     OutOfMemory,
 }
 
@@ -40,6 +43,10 @@ pub impl From<AllocError> for Fault as FaultFromAlloc {
     }
 }
 
+const KIND_NAME: &str = "expected the kind total, worst or class";
+
+const COLUMN_LIST: &str = "expected a roster as COLUMN,COLUMN,..";
+
 const MORE_MEMORY: &str = "expected more memory than there is";
 
 impl Unpriced {
@@ -58,11 +65,27 @@ impl Unpriced {
 impl PriceFault {
     fn message(self) -> &'static str {
         match self {
-            PriceFault::NoKind => "expected the kind total, worst or class",
+            PriceFault::NoKind => KIND_NAME,
             PriceFault::NoDuties => "expected duties as START-FINISH,START-FINISH,..",
-            PriceFault::NoColumns => "expected a roster as COLUMN,COLUMN,..",
+            PriceFault::NoColumns => COLUMN_LIST,
             PriceFault::NotPriced(why) => why.message(),
             PriceFault::NoMemoryLeft => MORE_MEMORY,
+        }
+    }
+}
+
+impl WeighFault {
+    fn message(self) -> &'static str {
+        match self {
+            WeighFault::NoKind => KIND_NAME,
+            WeighFault::NoSize => "expected 1 to 32 rows",
+            WeighFault::NoCells =>
+                "expected cells as COST,COST,.., each a number (in class CLASS:MINUTES) or - for forbidden",
+            WeighFault::NoColumns => COLUMN_LIST,
+            WeighFault::CellCount => "expected a cell for each row and column, row by row",
+            WeighFault::NoRoster =>
+                "expected a column below the number of rows for each row, and none twice",
+            WeighFault::NoMemoryLeft => MORE_MEMORY,
         }
     }
 }
@@ -71,9 +94,11 @@ impl Fault {
     fn message(self) -> &'static str {
         match self {
             Fault::NotText => "expected text in UTF-8",
-            Fault::NoRequest => "expected a request: price",
-            Fault::NotFiveWords => "expected price KIND EARLIER LATER ROSTER",
+            Fault::NoRequest => "expected a request: price or weigh",
+            Fault::NotPrice => "expected price KIND EARLIER LATER ROSTER",
+            Fault::NotWeigh => "expected weigh KIND N CELLS ROSTER",
             Fault::InPrice(why) => why.message(),
+            Fault::InWeigh(why) => why.message(),
             Fault::OutOfMemory => MORE_MEMORY,
         }
     }

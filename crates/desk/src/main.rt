@@ -3,7 +3,7 @@ mod answers;
 mod faults;
 mod lines;
 mod price;
-mod roster;
+mod weigh;
 
 use answers::answer;
 use faults::FaultDisplay;

@@ -2,10 +2,9 @@
 ghost use mathlib.Core.Path.{_≡_};
 ghost use lib.ListN.{length};
 ghost use Rattle.desk.specs.Prices.{chosen, Priced, Answered};
-ghost use Rattle.desk.specs.Rosters.{Roster};
+ghost use Rattle.tables.specs.Rosters.{Roster};
 ghost use Rattle.std.specs.Of.Vec.{vec-items};
 ghost use Rattle.std.specs.Vec.{made};
-use crate::roster::is_roster;
 use costs::class::ClassWritten;
 use costs::composition::class_cost;
 use costs::composition::total_cost;
@@ -22,6 +21,7 @@ use costs::values::Worst;
 use costs::worst::WorstWritten;
 use std::alloc::AllocError;
 use std::alloc::Global;
+use tables::rosters::is_roster;
 use words::kinds::Kind;
 
 #[derive(Clone, Copy)]

@@ -1,12 +1,14 @@
 // Lists between commas.
 ghost use mathlib.Core.Path.{_≡_};
 ghost use mathlib.Core.List.{map};
+ghost use mathlib.Core.Logic.{_⊎_};
 ghost use Prim.Native.Nat.{_<_};
 ghost use Rattle.std.specs.Of.Vec.{vec-items, vec-len};
 ghost use Rattle.std.specs.Pieces.{Lacks, rejoined};
 ghost use Rattle.std.specs.Places.{Every};
+ghost use Rattle.std.specs.Results.{Cases};
 ghost use Rattle.std.specs.Vec.{made};
-ghost use Rattle.words.specs.Words.{PiecesRead, Listed};
+ghost use Rattle.words.specs.Words.{PiecesRead, ListText, NoList, Listed};
 use crate::items::Item;
 use std::alloc::AllocError;
 use std::alloc::Global;
@@ -52,5 +54,21 @@ pub fn read_list<T: Item>(heap: Global, word: &str) -> Result<Vec<T>, Unlisted>
     match pieces(heap, word) {
         Ok(parts) => read_pieces(heap, parts.as_slice()),
         Err(_) => Err(Unlisted::NoMemory),
+    }
+}
+
+// The same, with the caller's own errors for a word that is no list and for want of memory.
+pub fn list_or<T: Item, E: Copy>(
+    heap: Global,
+    word: &str,
+    no_list: E,
+    no_memory: E,
+) -> Result<Vec<T>, E>
+    ensures { λ r. ⌜ Cases r (λ v. ListText text (now (word .entry)) (vec-items v)) (λ e. ((e ≡ «no_list») × NoList text (now (word .entry))) ⊎ (e ≡ «no_memory»)) ⌝ }
+{
+    match read_list(heap, word) {
+        Ok(list) => Ok(list),
+        Err(Unlisted::NoItem) => Err(no_list),
+        Err(Unlisted::NoMemory) => Err(no_memory),
     }
 }

@@ -1,49 +1,55 @@
-use mathlib.Core.List.{List, [], _∷_}
-use mathlib.Core.Path.{_≡_, ap, _∙_}
-use Prim.Native.Nat.{ℕ, _<_}
+use mathlib.Core.List.{List}
+use mathlib.Core.Logic.{inl, inr}
+use Prim.Native.Nat.{ℕ}
 use native.Mathlib.Omega.{arith}
 use denote.Ref.{RefT}
 use lib.Chars.{codes}
-use lib.ListN.{length, getD, drop}
-use Rattle.desk.specs.Replies.{PriceWords, request}
-use Rattle.words.proofs.Pieces.{nowhere, behind}
-use Rattle.desk.proofs.Texts.{no-words, first-and-others, length-others, five-words, same-text, other-text}
+use lib.ListN.{drop}
+use Rattle.std.proofs.shelf.Ways.{not-from-decides}
+use Rattle.words.proofs.Pieces.{behind}
+use Rattle.desk.specs.Replies.{PriceWords}
+use Rattle.desk.specs.Weighing.{TableWords}
+use Rattle.desk.proofs.Texts.{no-words, first-and-others, word, five-of, not-five-of}
 use Rattle.desk.proofs.answers.answer_words.Needs as need
 
 -- the words of a price request behind the first
-abbrev asked : List (RefT (List ℕ)) → PriceWords
-asked words = record {
-  kind-word = getD words 1 nowhere .now;
-  earlier-word = getD words 2 nowhere .now;
-  later-word = getD words 3 nowhere .now;
-  roster-word = getD words 4 nowhere .now;
-}
+abbrev asked-price : List (RefT (List ℕ)) → PriceWords
+asked-price words = record { kind-word = word words 1; earlier-word = word words 2; later-word = word words 3; roster-word = word words 4 }
 
-is-request : (words : List (RefT (List ℕ))) → length words ≡ 5 → getD words 0 nowhere .now ≡ codes "price" → behind words ≡ request (asked words)
-is-request words five price = five-words words five ∙ ap (λ w. w ∷ drop 1 (request (asked words))) price
+-- and those of a weigh request behind the kind
+abbrev asked-weigh : List (RefT (List ℕ)) → TableWords
+asked-weigh words = record { size-word = word words 2; cells-word = word words 3; roster-word = word words 4 }
 
 pub returns-then-is-empty : need.returns-then-is-empty
 returns-then-is-empty c = no-words (c .args .words .now) (grind arith)
 
-pub returns-then-ne : need.returns-then-ne
-returns-then-ne c =
-    let words = c .args .words .now in
-    let some : 0 < length words = grind arith in
-    (getD words 0 nowhere .now, behind (drop 1 words), first-and-others words some, other-text (c .if-ne .ensures tt))
-
 pub returns-then-words-ne5 : need.returns-then-words-ne5
-returns-then-words-ne5 c =
-    let words = c .args .words .now in
-    let some : 0 < length words = grind arith in
-    let others = behind (drop 1 words) in
-    (others, first-and-others words some ∙ ap (λ w. w ∷ others) (same-text (c .if-ne .ensures tt)), λ four. c .if-words-ne5 .taken (omega (arith, length-others words some)))
+returns-then-words-ne5 c = not-five-of (c .args .words .now) (codes "price") (c .eq .ensures .0 (c .if-eq .taken)) (grind arith) (c .if-words-ne5 .taken)
 
 pub returns-in-Ok : need.returns-in-Ok
 returns-in-Ok c =
     let words = c .args .words .now in
-    (asked words, is-request words (c .if-words-ne5 .left) (same-text (c .if-ne .ensures tt)), c .in-Ok .ensures tt)
+    inl (asked-price words, five-of words (codes "price") (c .eq .ensures .0 (c .if-eq .taken)) (c .if-words-ne5 .left), c .in-Ok .ensures tt)
 
 pub returns-in-Err : need.returns-in-Err
 returns-in-Err c =
     let words = c .args .words .now in
-    (asked words, is-request words (c .if-words-ne5 .left) (same-text (c .if-ne .ensures tt)), c .in-Err .ensures tt)
+    (asked-price words, five-of words (codes "price") (c .eq .ensures .0 (c .if-eq .taken)) (c .if-words-ne5 .left), c .in-Err .ensures tt)
+
+pub returns-then-words-ne5-2 : need.returns-then-words-ne5-2
+returns-then-words-ne5-2 c = not-five-of (c .args .words .now) (codes "weigh") (c .eq-2 .ensures .0 (c .if-eq-2 .taken)) (grind arith) (c .if-words-ne5-2 .taken)
+
+pub returns-in-Ok-answer-weigh : need.returns-in-Ok-answer-weigh
+returns-in-Ok-answer-weigh c =
+    let words = c .args .words .now in
+    inr (word words 1, asked-weigh words, five-of words (codes "weigh") (c .eq-2 .ensures .0 (c .if-eq-2 .taken)) (c .if-words-ne5-2 .left), c .in-Ok-answer-weigh .ensures tt)
+
+pub returns-in-Err-answer-weigh : need.returns-in-Err-answer-weigh
+returns-in-Err-answer-weigh c =
+    let words = c .args .words .now in
+    (word words 1, asked-weigh words, five-of words (codes "weigh") (c .eq-2 .ensures .0 (c .if-eq-2 .taken)) (c .if-words-ne5-2 .left), c .in-Err-answer-weigh .ensures tt)
+
+pub returns : need.returns
+returns c =
+    let words = c .args .words .now in
+    (word words 0, behind (drop 1 words), first-and-others words (grind arith), not-from-decides _ (c .eq .ensures) (c .if-eq .left), not-from-decides _ (c .eq-2 .ensures) (c .if-eq-2 .left))

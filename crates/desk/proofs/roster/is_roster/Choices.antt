@@ -1,5 +1,0 @@
-use Rattle.desk.proofs.Seats.{Seated}
-use Rattle.desk.proofs.roster.is_roster.Given as given
-
-abbrev pub Inv-loop-i : given.InvT-loop-i
-Inv-loop-i l = Seated (l .n) (l .columns) (l .i)
