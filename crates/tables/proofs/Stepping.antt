@@ -166,8 +166,12 @@ module _ {C : Type 0} (o : Operations C) (n : ℕ) (s : Step C) (before : List C
     pub same-length : length cells ≡ length before
     pub places : (k : ℕ) (d : C) → k < length before → getD cells k d ≡ held k d (done k)
 
-  pub partway-none : (done : ℕ → Bool) → ((k : ℕ) → done k ≡ false) → Partway done before
-  partway-none done none = record { same-length = refl; places = λ k d within. sym (ap (held k d) (none k)) }
+  -- a place that is not done, or in surplus, is as it was
+  unmoved : (k : ℕ) (d : C) (done : Bool) → (k < n * n → done ≡ false) → getD before k d ≡ held k d done
+  unmoved k d done none = grind (arith, tells, none)
+
+  pub partway-none : (done : ℕ → Bool) → ((k : ℕ) → k < length before → k < n * n → done k ≡ false) → Partway done before
+  partway-none done none = record { same-length = refl; places = λ k d within. unmoved k d (done k) (none k within) }
 
   -- the visit of a place that was not done
   pub partway-visit : (done next : ℕ → Bool) (cells : List C) (p : ℕ) (b new : C) → Partway done cells → p < length before → done p ≡ false → next p ≡ true → ((k : ℕ) → (k ≡ p → ⊥) → next k ≡ done k) → b ≡ getD cells p b → new ≡ changed-at o n s p b → Partway next (set cells p new)

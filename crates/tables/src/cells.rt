@@ -1,5 +1,6 @@
 // What is read from and done to a table's cells, which lie row by row in a slice of costs.
 ghost use mathlib.Core.Path.{_≡_};
+ghost use Prim.Native.Nat.{_/_, _%_};
 ghost use Rattle.std.specs.Options.{Cases as BySome};
 ghost use Rattle.std.specs.Orderings.{Decides};
 ghost use Rattle.tables.specs.Steps.{in-set, changed, stepped, AtMostInside, NoneInside, LeastInside, with-cell, AllAbsorbed, FirstNotAbsorbed};
@@ -15,9 +16,9 @@ use costs::kind::CostKind;
 pub fn cell_at<C: CostKind>(cells: &[C], size: Size, row: usize, column: usize) -> C
     ensures { λ r. ⌜ r ≡ grid operations (size .n) (now (cells .entry)) row column ⌝ }
 {
-    let place = row.saturating_mul(size.rows()).saturating_add(column);
-    if place < cells.len() {
-        cells[place]
+    let at = row.saturating_mul(size.rows()).saturating_add(column);
+    if at < cells.len() {
+        cells[at]
     } else {
         C::empty()
     }
@@ -34,10 +35,12 @@ pub fn roster_cost<C: CostKind>(cells: &[C], size: Size, roster: &[u8]) -> C
     cost
 }
 
-// What a step makes of the cell in a row and a column.
-fn changed_cell<C: CostKind>(step: Step<C>, row: usize, column: usize, cell: C) -> C
-    ensures { λ r. ⌜ r ≡ changed operations (step .amount) (in-set (step .rows) row) (in-set (step .columns) column) cell ⌝ }
+// What a step makes of the cell at a place.
+fn changed_cell<C: CostKind>(step: Step<C>, size: Size, place: usize, cell: C) -> C
+    ensures { λ r. ⌜ r ≡ changed operations (step .amount) (in-set (step .rows) (place / size .n)) (in-set (step .columns) (place % size .n)) cell ⌝ }
 {
+    let row = place / size.rows();
+    let column = place % size.rows();
     match (in_set(step.rows, row), in_set(step.columns, column)) {
         (true, true) => step.amount.rest(cell),
         (false, false) => step.amount.compose(cell),
@@ -51,7 +54,7 @@ pub fn apply_step<C: CostKind>(cells: &mut [C], size: Size, step: Step<C>)
 {
     let n = size.rows();
     for place in 0..(n * n).min(cells.len()) {
-        cells[place] = changed_cell(step, place / n, place % n, cells[place]);
+        cells[place] = changed_cell(step, size, place, cells[place]);
     }
 }
 

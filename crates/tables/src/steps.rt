@@ -3,10 +3,11 @@ ghost use mathlib.Core.Path.{_≡_};
 ghost use Prim.Native.Nat.{_≤_};
 ghost use lib.Count.{ones};
 ghost use Rattle.std.specs.Orderings.{Decides};
-ghost use Rattle.tables.specs.Steps.{in-set, excess, times, taken, value, Absorbed};
+ghost use Rattle.tables.specs.Steps.{in-set, excess, times, taken, value, Absorbed, wide};
 use crate::values::Size;
 use crate::values::Step;
 use costs::kind::CostKind;
+use costs::values::Widened;
 
 const MASK_BITS: usize = 32;
 
@@ -54,6 +55,17 @@ impl<K: CostKind> Step<K> {
         ensures { λ r. ⌜ r ≡ taken operations (size .n) (now (self .entry)) ⌝ }
     {
         compose_times(self.amount, self.excess(size))
+    }
+
+    // The same step on cells that may be forbidden.
+    pub fn widened(&self) -> Step<Widened<K>>
+        ensures { λ r. ⌜ r ≡ wide (now (self .entry)) ⌝ }
+    {
+        Step {
+            rows: self.rows,
+            columns: self.columns,
+            amount: Widened::Allowed(self.amount),
+        }
     }
 }
 

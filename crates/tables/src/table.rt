@@ -68,12 +68,7 @@ impl<'a, K: CostKind> Table<'a, K> {
         ensures forbidden { λ _. ⌜ map is-forbidden (cells-of (now (self .exit))) ≡ map is-forbidden (cells-of (now (self .entry))) ⌝ }
     {
         let size = self.size;
-        let wide = Step {
-            rows: step.rows,
-            columns: step.columns,
-            amount: Widened::Allowed(step.amount),
-        };
-        apply_step(self.cells, size, wide);
+        apply_step(self.cells, size, step.widened());
     }
 
     // Makes one step after the other.

@@ -1,8 +1,9 @@
 use mathlib.Core.Path.{refl, sym, ap, subst, _∙_}
 use mathlib.Core.List.{map}
+use Rattle.costs.specs.Wide.{widened}
 use Rattle.tables.specs.Lent.{side, cells-of}
 use Rattle.tables.specs.Promises.{StepLowers}
-use Rattle.tables.specs.Steps.{is-forbidden}
+use Rattle.tables.specs.Steps.{stepped, is-forbidden}
 use Rattle.tables.proofs.Stepping.{step-lowers, forbidden-kept}
 use Rattle.tables.proofs.table.Table.apply.Needs as need
 
@@ -12,10 +13,11 @@ returns g c =
     let n = side (c .args .self .now) in
     let before = cells-of (c .args .self .now) in
     let step = c .args .step in
+    let after = c .apply-step .ensures ∙ ap (λ s. stepped (widened o) n s before) (c .widened .ensures) in
     record {
       lent = refl;
       size = refl;
-      cells = c .apply-step .ensures;
-      rosters = subst (StepLowers o n before step) (sym (c .apply-step .ensures)) (step-lowers (g .K·CostKind·met .lawful) n before step);
-      forbidden = ap (map is-forbidden) (c .apply-step .ensures) ∙ forbidden-kept o n step before;
+      cells = after;
+      rosters = subst (StepLowers o n before step) (sym after) (step-lowers (g .K·CostKind·met .lawful) n before step);
+      forbidden = ap (map is-forbidden) after ∙ forbidden-kept o n step before;
     }
