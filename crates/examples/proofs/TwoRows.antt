@@ -37,6 +37,16 @@ different a b differ i (suc (suc j)) lt up e = omega arith
 roster-of : (a b : ℕ) → (a ≡ b → ⊥) → a < 2 → b < 2 → Roster 2 (a ∷ b ∷ [])
 roster-of a b differ ha hb = record { every-row = refl; column-there = (ha, (hb, tt)); none-twice = different a b differ }
 
+-- what holds of each of the four places
+pub of-four : (P : ℕ → ℕ → Type 0) → P 0 0 → P 0 1 → P 1 0 → P 1 1 → (r c : ℕ) → r < 2 → c < 2 → P r c
+of-four P a b c d zero zero hr hc = a
+of-four P a b c d zero (suc zero) hr hc = b
+of-four P a b c d (suc zero) zero hr hc = c
+of-four P a b c d (suc zero) (suc zero) hr hc = d
+of-four P a b c d zero (suc (suc k)) hr hc = absurd (omega arith)
+of-four P a b c d (suc zero) (suc (suc k)) hr hc = absurd (omega arith)
+of-four P a b c d (suc (suc r)) k hr hc = absurd (omega arith)
+
 -- a roster of two rows is cheapest if it costs at most either of the two
 pub cheapest-of-two : {C : Type 0} (o : Operations C) (t : ℕ → ℕ → C) (a b : ℕ) → (a ≡ b → ⊥) → a < 2 → b < 2 → o .at-most (roster-cost o t (a ∷ b ∷ [])) (roster-cost o t (0 ∷ 1 ∷ [])) ≡ true → o .at-most (roster-cost o t (a ∷ b ∷ [])) (roster-cost o t (1 ∷ 0 ∷ [])) ≡ true → Cheapest o 2 t (a ∷ b ∷ [])
 cheapest-of-two o t a b differ ha hb straight crossed = record {

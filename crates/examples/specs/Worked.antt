@@ -14,7 +14,7 @@ use Rattle.costs.specs.Wide.{widened}
 use Rattle.costs.specs.declared.values.Widened.{Widened}
 use Rattle.costs.specs.declared.values.Widened.the-variants.{Allowed, Forbidden}
 use Rattle.costs.specs.declared.values.Worst.{Worst}
-use Rattle.tables.specs.Promises.{Settled}
+use Rattle.tables.specs.Promises.{Reached, Settled}
 use Rattle.tables.specs.Steps.{Admissible, value, wide}
 use Rattle.tables.specs.Tables.{grid}
 use Rattle.tables.specs.declared.values.Step.{Step}
@@ -43,6 +43,13 @@ threes = two-rows (total 3) (total 3) (total 3) (total 3)
 abbrev pub step-by-three : Step Total
 step-by-three = record { rows = 3; columns = 3; amount = total 3 }
 
+-- rows 0 5 and 4 8 in total, and two steps: on row 1 and both columns, then on both rows and column 1
+abbrev pub eights : List (Widened Total)
+eights = two-rows (total 0) (total 5) (total 4) (total 8)
+
+abbrev pub settling : List (Step Total)
+settling = record { rows = 2; columns = 3; amount = total 4 } ∷ record { rows = 3; columns = 2; amount = total 4 } ∷ []
+
 pub record Worked : Type 0 where
   -- 1:9 composed with 2:1 is 2:1
   pub higher-class : class-operations .compose (class 1 9) (class 2 1) ≡ class 2 1
@@ -62,7 +69,9 @@ pub record Worked : Type 0 where
   pub threes-admissible : Admissible (widened total-operations) 2 (grid (widened total-operations) 2 threes) (wide step-by-three)
   pub threes-value : value total-operations 2 (step-by-three ∷ []) ≡ total 6
   -- rows 0 5 and 4 8 in total: roster 0 1 costs 8, and no roster costs less
-  pub settled-in-total : Settled total-operations 2 (two-rows (total 0) (total 5) (total 4) (total 8)) (total 8) (0 ∷ 1 ∷ [])
+  pub settled-in-total : Settled total-operations 2 eights (total 8) (0 ∷ 1 ∷ [])
+  -- two steps that may be made one after the other leave rows 0 1 and 0 0 of it, and their value is 8
+  pub reached-in-total : Reached total-operations 2 eights settling (two-rows (total 0) (total 1) (total 0) (total 0)) (total 8)
   -- the same in worst: roster 1 0, cost 5
   pub settled-in-worst : Settled worst-operations 2 (two-rows (worst 0) (worst 5) (worst 4) (worst 8)) (worst 5) (1 ∷ 0 ∷ [])
   -- rows 0:0 1:50 and 1:30 2:1 in class: roster 1 0, cost 1:80

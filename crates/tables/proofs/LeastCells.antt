@@ -10,7 +10,8 @@ use Rattle.std.specs.declared.option.Option.the-variants.{Some, None}
 use Rattle.std.proofs.shelf.Bits.{mul-add-lt, div-mul-add, mod-mul-add, div-below, mod-below}
 use Rattle.std.proofs.shelf.Tests.{cases-lt}
 use Rattle.costs.specs.Kinds.{Operations, Laws}
-use Rattle.tables.specs.Steps.{in-set, NoneInside, LeastInside, lesser, with-cell}
+use Rattle.tables.specs.LeastCells.{NoneInside, LeastInside, lesser, with-cell}
+use Rattle.tables.specs.Steps.{in-set}
 use Rattle.tables.specs.declared.values.Least.{Least}
 
 module _ {C : Type 0} (o : Operations C) (n : ℕ) (t : ℕ → ℕ → C) (rows columns : ℕ) where

@@ -13,8 +13,8 @@ use Rattle.std.specs.declared.option.Option.{Option}
 use Rattle.std.specs.declared.option.Option.the-variants.{Some, None}
 use Rattle.std.specs.shelf.Lists.{All}
 use Rattle.std.proofs.shelf.Bits.{mul-add-lt, div-mul-add, mod-mul-add}
-use Rattle.std.proofs.shelf.Lists.{getD-read, getD-set-other, getD-set-same, length-set, map-more, same-lists}
-use Rattle.std.proofs.shelf.Tests.{cases-eq, lt-ltb}
+use Rattle.std.proofs.shelf.Lists.{getD-past, getD-read, getD-set-other, getD-set-same, length-set, map-more, same-lists}
+use Rattle.std.proofs.shelf.Tests.{cases-eq, cases-lt, le-ltb, lt-ltb}
 use Rattle.std.proofs.shelf.Ways.{tells}
 use Rattle.costs.specs.Kinds.{Operations, Laws, composed}
 use Rattle.costs.specs.Wide.{widened}
@@ -22,7 +22,7 @@ use Rattle.costs.specs.declared.values.Widened.{Widened}
 use Rattle.costs.specs.declared.values.Widened.the-variants.{Allowed, Forbidden}
 use Rattle.costs.proofs.Rows.{composed-allowed}
 use Rattle.costs.proofs.WideLaws.{wide-laws}
-use Rattle.tables.specs.Promises.{StepLowers, StepsLower, Reached, Settled, SettledWhereReached}
+use Rattle.tables.specs.Promises.{StepMade, StepLowers, StepsLower, Reached, Settled, SettledWhereReached}
 use Rattle.tables.specs.Rosters.{Roster}
 use Rattle.tables.specs.Steps.{in-set, changed, changed-at, stepped-from, stepped, stepped-all, Admissible, AllAdmissible, times, taken, value, Absorbed, AllAbsorbed, FirstNotAbsorbed, excess, wide, is-forbidden}
 use Rattle.tables.specs.Tables.{grid, Whole, chosen, roster-cost, Cheapest}
@@ -60,6 +60,14 @@ module _ {C : Type 0} (o : Operations C) (n : ℕ) where
       getD-stepped s cells place (o .empty) (omega arith)
       ∙ changed-there s place b there
       ∙ ap₂ (λ x y. changed o (s .amount) (in-set (s .rows) x) (in-set (s .columns) y) b) (div-mul-add r n c column) (mod-mul-add r n c column)
+
+  -- cells in surplus stay
+  surplus-stays : (s : Step C) (cells : List C) (k : ℕ) (d : C) → n * n ≤ k → getD (stepped o n s cells) k d ≡ getD cells k d
+  surplus-stays s cells k d past =
+      ⊎-elim
+      (λ within. getD-stepped s cells k d within ∙ ap (λ t. cond t (changed o (s .amount) (in-set (s .rows) (k / n)) (in-set (s .columns) (k % n)) (getD cells k d)) (getD cells k d)) (le-ltb k (n * n) past))
+      (λ none. getD-past (stepped o n s cells) k d (omega (arith, length-stepped s cells)) ∙ sym (getD-past cells k d none))
+      (cases-lt k (length cells))
 
   -- one step more
   stepped-push : (steps : List (Step C)) (s : Step C) (cells : List C) → stepped-all o n (steps ++ (s ∷ [])) cells ≡ stepped o n s (stepped-all o n steps cells)
@@ -138,6 +146,9 @@ module _ {C : Type 0} (o : Operations C) (n : ℕ) where
 
 -- the promises about a table, whose cells may be forbidden
 module _ {C : Type 0} {o : Operations C} (laws : Laws o) (n : ℕ) where
+  pub step-made : (before : List (Widened C)) (s : Step C) → StepMade o n before s (stepped (widened o) n (wide s) before)
+  step-made before s = record { each = grid-stepped (widened o) n (wide s) before; surplus = surplus-stays (widened o) n (wide s) before }
+
   pub step-lowers : (before : List (Widened C)) (s : Step C) → StepLowers o n before s (stepped (widened o) n (wide s) before)
   step-lowers before s whole admissible =
       subst (λ less. Takes (wide-laws laws) n before less (stepped (widened o) n (wide s) before)) (times-wide o n (excess n s) (s .amount)) (step-takes (wide-laws laws) n before (wide s) whole admissible)

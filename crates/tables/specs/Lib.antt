@@ -1,3 +1,4 @@
+pub mod LeastCells
 pub mod Lent
 pub mod Promises
 pub mod Rosters

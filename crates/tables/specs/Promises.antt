@@ -1,13 +1,14 @@
 -- What steps mean for the rosters of a table. Assumes nothing.
 use mathlib.Core.Path.{_≡_}
 use mathlib.Core.List.{List, map}
-use Prim.Native.Nat.{ℕ}
+use Prim.Native.Nat.{ℕ, _*_, _≤_, _<_}
+use lib.ListN.{getD}
 use Rattle.costs.specs.Kinds.{Operations}
 use Rattle.costs.specs.Wide.{widened}
 use Rattle.costs.specs.declared.values.Widened.{Widened}
 use Rattle.costs.specs.declared.values.Widened.the-variants.{Allowed}
 use Rattle.tables.specs.Rosters.{Roster}
-use Rattle.tables.specs.Steps.{stepped-all, Admissible, AllAdmissible, taken, value, wide}
+use Rattle.tables.specs.Steps.{in-set, changed, stepped-all, Admissible, AllAdmissible, taken, value, wide}
 use Rattle.tables.specs.Tables.{grid, Whole, roster-cost, Cheapest}
 use Rattle.tables.specs.declared.values.Step.{Step}
 
@@ -15,6 +16,11 @@ module _ {C : Type 0} (o : Operations C) (n : ℕ) where
   -- what a roster costs in these cells
   abbrev pub cost-in : List (Widened C) → List ℕ → Widened C
   cost-in cells columns = roster-cost (widened o) (grid (widened o) n cells) columns
+
+  -- a step was made: each cell of the table has become what the rule says for its row and column, and cells in surplus stay
+  pub record StepMade (before : List (Widened C)) (s : Step C) (after : List (Widened C)) : Type 0 where
+    pub each : Whole n before → (r c : ℕ) → r < n → c < n → grid (widened o) n after r c ≡ changed (widened o) (Allowed (s .amount)) (in-set (s .rows) r) (in-set (s .columns) c) (grid (widened o) n before r c)
+    pub surplus : (k : ℕ) (d : Widened C) → n * n ≤ k → getD after k d ≡ getD before k d
 
   -- every roster, whichever it is, costs so much more before than after
   abbrev pub Lowered : List (Widened C) → C → List (Widened C) → Type 0

@@ -1,19 +1,16 @@
 -- Steps, the admissible transformations of Burkard, Hahn and Zimmermann (1977). Assumes nothing.
 use mathlib.Core.Path.{_≡_}
-use mathlib.Core.Bool.{Bool, true, false, cond, _&&_}
+use mathlib.Core.Bool.{Bool, true, false, cond}
 use mathlib.Core.List.{List, [], _∷_, map}
 use Prim.Native.Nat.{ℕ, zero, suc, _+_, _-_, _*_, _/_, _%_, _^_, _≤_, _<_}
 use lib.Count.{ones}
 use lib.Dec.{eqb, ltb}
 use lib.ListN.{length, getD, take}
 use Rattle.std.specs.shelf.Lists.{All}
-use Rattle.std.specs.declared.option.Option.{Option}
-use Rattle.std.specs.declared.option.Option.the-variants.{Some, None}
 use Rattle.costs.specs.Kinds.{Operations, composed}
 use Rattle.costs.specs.declared.values.Widened.{Widened}
 use Rattle.costs.specs.declared.values.Widened.the-variants.{Allowed, Forbidden}
 use Rattle.tables.specs.Tables.{grid, chosen}
-use Rattle.tables.specs.declared.values.Least.{Least}
 use Rattle.tables.specs.declared.values.Step.{Step}
 
 -- whether a mask's set has row or column r: the bit of worth 2^r is 1
@@ -81,36 +78,6 @@ value o n steps = composed o (map (taken o n) steps)
 abbrev pub Absorbed : {C : Type 0} → Operations C → C → C → Type 0
 Absorbed o z b = o .compose z b ≡ z
 
--- a step by an allowed amount, on a table of cells that may be forbidden
-abbrev pub wide : {C : Type 0} → Step C → Step (Widened C)
-wide s = record { rows = s .rows; columns = s .columns; amount = Allowed (s .amount) }
-
-abbrev pub is-forbidden : {C : Type 0} → Widened C → Bool
-is-forbidden (Allowed c) = false
-is-forbidden Forbidden = true
-
--- no cell lies in both sets
-abbrev pub NoneInside : ℕ → ℕ → ℕ → Type 0
-NoneInside n rows columns = (r c : ℕ) → r < n → c < n → in-set rows r ≡ true → in-set columns c ≡ true → ⊥
-
--- a cell in both sets, with its row and column, that is at most every cell there
-pub record LeastInside {C : Type 0} (o : Operations C) (n : ℕ) (t : ℕ → ℕ → C) (rows columns : ℕ) (least : Least C) : Type 0 where
-  pub row-there : least .row < n
-  pub column-there : least .column < n
-  pub in-rows : in-set rows (least .row) ≡ true
-  pub in-columns : in-set columns (least .column) ≡ true
-  pub amount-is : least .amount ≡ t (least .row) (least .column)
-  pub at-most-all : AtMostInside o n t rows columns (least .amount)
-
--- the lesser of the least cell so far and one cell more; of equal ones the earlier
-abbrev pub lesser : {C : Type 0} → Operations C → Option (Least C) → Least C → Option (Least C)
-lesser o None cell = Some cell
-lesser o (Some least) cell = cond (o .at-most (least .amount) (cell .amount)) (Some least) (Some cell)
-
--- the same, where a cell counts only if it lies in both sets
-abbrev pub with-cell : {C : Type 0} → Operations C → ℕ → ℕ → Option (Least C) → Least C → Option (Least C)
-with-cell o rows columns least cell = cond (in-set rows (cell .row) && in-set columns (cell .column)) (lesser o least cell) least
-
 -- every cell of a roster is absorbed
 abbrev pub AllAbsorbed : {C : Type 0} → Operations C → (ℕ → ℕ → C) → C → List ℕ → Type 0
 AllAbsorbed o t z columns = All (Absorbed o z) (chosen t columns)
@@ -120,3 +87,11 @@ pub record FirstNotAbsorbed {C : Type 0} (o : Operations C) (t : ℕ → ℕ →
   pub row-there : row < length columns
   pub absorbed-before : AllAbsorbed o t z (take row columns)
   pub not-absorbed : Absorbed o z (t row (getD columns row 0)) → ⊥
+
+-- a step by an allowed amount, on a table of cells that may be forbidden
+abbrev pub wide : {C : Type 0} → Step C → Step (Widened C)
+wide s = record { rows = s .rows; columns = s .columns; amount = Allowed (s .amount) }
+
+abbrev pub is-forbidden : {C : Type 0} → Widened C → Bool
+is-forbidden (Allowed c) = false
+is-forbidden Forbidden = true

@@ -7,8 +7,9 @@ ghost use Rattle.costs.specs.declared.values.Widened.the-variants.{Allowed};
 ghost use Rattle.std.specs.Options.{Cases as BySome};
 ghost use Rattle.std.specs.Orderings.{Decides};
 ghost use Rattle.tables.specs.Lent.{side, cells-of, at};
-ghost use Rattle.tables.specs.Promises.{cost-in, StepLowers, StepsLower, SettledWhereReached};
-ghost use Rattle.tables.specs.Steps.{stepped, stepped-all, AtMostInside, NoneInside, LeastInside, AllAbsorbed, FirstNotAbsorbed, wide, is-forbidden};
+ghost use Rattle.tables.specs.Promises.{cost-in, StepMade, StepLowers, StepsLower, SettledWhereReached};
+ghost use Rattle.tables.specs.LeastCells.{NoneInside, LeastInside};
+ghost use Rattle.tables.specs.Steps.{stepped, stepped-all, AtMostInside, AllAbsorbed, FirstNotAbsorbed, wide, is-forbidden};
 use crate::cells::apply_step;
 use crate::cells::at_most_inside;
 use crate::cells::first_not_absorbed;
@@ -64,6 +65,7 @@ impl<'a, K: CostKind> Table<'a, K> {
         ensures lent { λ _. ⌜ name (now (self .exit) .cells) ≡ name (now (self .entry) .cells) ⌝ }
         ensures size { λ _. ⌜ now (self .exit) .size ≡ now (self .entry) .size ⌝ }
         ensures cells { λ _. ⌜ cells-of (now (self .exit)) ≡ stepped (widened operations) (side (now (self .entry))) (wide step) (cells-of (now (self .entry))) ⌝ }
+        ensures made { λ _. ⌜ StepMade operations (side (now (self .entry))) (cells-of (now (self .entry))) step (cells-of (now (self .exit))) ⌝ }
         ensures rosters { λ _. ⌜ StepLowers operations (side (now (self .entry))) (cells-of (now (self .entry))) step (cells-of (now (self .exit))) ⌝ }
         ensures forbidden { λ _. ⌜ map is-forbidden (cells-of (now (self .exit))) ≡ map is-forbidden (cells-of (now (self .entry))) ⌝ }
     {

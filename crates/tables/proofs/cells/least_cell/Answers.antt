@@ -1,7 +1,7 @@
 use mathlib.Core.Path.{_≡_, sym, ap, subst, _∙_}
 use Prim.Native.Nat.{_/_, _%_}
 use Rattle.std.specs.Options.{Cases}
-use Rattle.tables.specs.Steps.{NoneInside, LeastInside, with-cell}
+use Rattle.tables.specs.LeastCells.{NoneInside, LeastInside, with-cell}
 use Rattle.tables.specs.Tables.{grid}
 use Rattle.tables.proofs.LeastCells.{Sofar, sofar-none, sofar-more, sofar-all}
 use Rattle.tables.proofs.cells.least_cell.Needs as need
