@@ -12,7 +12,7 @@ use Rattle.costs.specs.declared.values.Widened.{Widened}
 use Rattle.costs.proofs.PlainCosts.{cost-of, total-means, worst-means, class-means}
 use Rattle.words.specs.declared.kinds.Kind.{Kind}
 use Rattle.words.specs.declared.kinds.Kind.the-variants.{Total, Worst, Class}
-use Rattle.desk.specs.Weighing.{TableWords, TableWeighed, Heard, WordsWeighed, cost-type, operations-of, text-of, means-of, price-in, KindWeighed}
+use Rattle.desk.specs.Weighing.{TableWords, TableWeighed, WordsWeighed, cost-type, operations-of, text-of, means-of, price-in, KindWeighed}
 use Rattle.desk.specs.declared.price.Price.{Price}
 use Rattle.desk.specs.declared.weigh.WeighFault.{WeighFault}
 use Rattle.desk.specs.declared.weigh.WeighFault.the-variants.{NoKind, NoSize, NoCells, NoColumns, CellCount, NoRoster, NoMemoryLeft}

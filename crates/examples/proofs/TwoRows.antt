@@ -5,7 +5,7 @@ use mathlib.Core.List.{List, [], _∷_}
 use mathlib.Core.Logic.{_⊎_, inl, inr, ⊎-elim}
 use Prim.Native.Nat.{ℕ, zero, suc, _<_}
 use native.Mathlib.Omega.{arith}
-use lib.ListN.{length, getD}
+use lib.ListN.{getD}
 use Rattle.costs.specs.Kinds.{Operations}
 use Rattle.tables.specs.Rosters.{Roster}
 use Rattle.tables.specs.Tables.{roster-cost, Cheapest}

@@ -3,7 +3,6 @@ use mathlib.Core.Path.{_≡_, refl, sym, ap, ap₂, subst, _∙_}
 use mathlib.Core.Bool.{Bool, true, false, cond}
 use mathlib.Core.List.{List, [], _∷_, _++_, map}
 use Prim.Native.Nat.{ℕ, zero, suc, _+_, _*_, _/_, _%_, _≤_, _<_}
-use native.Mathlib.Nat.{add-zero, add-suc}
 use native.Mathlib.Omega.{arith}
 use lib.Dec.{ltb}
 use mathlib.Core.Logic.{⊎-elim}
@@ -22,13 +21,13 @@ use Rattle.costs.specs.declared.values.Widened.{Widened}
 use Rattle.costs.specs.declared.values.Widened.the-variants.{Allowed, Forbidden}
 use Rattle.costs.proofs.Rows.{composed-allowed}
 use Rattle.costs.proofs.WideLaws.{wide-laws}
-use Rattle.tables.specs.Promises.{StepMade, StepLowers, StepsLower, Reached, Settled, SettledWhereReached}
+use Rattle.tables.specs.Promises.{StepMade, StepLowers, StepsLower, SettledWhereReached}
 use Rattle.tables.specs.Rosters.{Roster}
 use Rattle.tables.specs.Steps.{in-set, changed, changed-at, stepped-from, stepped, stepped-all, Admissible, AllAdmissible, times, taken, value, Absorbed, AllAbsorbed, FirstNotAbsorbed, excess, wide, is-forbidden}
 use Rattle.tables.specs.Tables.{grid, Whole, chosen, roster-cost, Cheapest}
 use Rattle.tables.specs.declared.values.Step.{Step}
 use Rattle.tables.proofs.Lowering.{lowered}
-use Rattle.tables.proofs.Orders.{empty-right, at-most-composed, absorbed-all}
+use Rattle.tables.proofs.Orders.{at-most-composed, absorbed-all}
 
 module _ {C : Type 0} (o : Operations C) (n : ℕ) where
   length-from : (s : Step C) (place : ℕ) (cells : List C) → length (stepped-from o n s place cells) ≡ length cells

@@ -4,13 +4,11 @@ use Prim.Native.Nat.{ℕ, _+_, _-_}
 use native.Mathlib.Omega.{arith}
 use lib.Count.{ones, ones-step, ones-ones}
 use Rattle.costs.specs.Totals.{total-operations}
-use Rattle.costs.specs.Wide.{widened}
 use Rattle.costs.specs.declared.values.Total.{Total}
 use Rattle.costs.specs.declared.values.Widened.the-variants.{Allowed}
 use Rattle.costs.proofs.Same.{same-total, same-worst, same-class}
-use Rattle.tables.specs.Steps.{in-set, times}
-use Rattle.tables.specs.Tables.{grid}
-use Rattle.examples.specs.Worked.{total, two-rows, threes, eights}
+use Rattle.tables.specs.Steps.{times}
+use Rattle.examples.specs.Worked.{total, two-rows}
 use Rattle.examples.proofs.TwoRows.{of-four, cheapest-of-two}
 use Rattle.examples.proofs.examples_hold.Needs as need
 

@@ -1,6 +1,5 @@
 use mathlib.Core.Path.{sym}
 use Prim.Native.Nat.{_/_, _^_}
-use native.Mathlib.Omega.{arith}
 use Rattle.tables.proofs.Sets.{none-above, last-bit}
 use Rattle.tables.proofs.steps.in_set.Needs as need
 

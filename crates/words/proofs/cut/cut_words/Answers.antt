@@ -1,5 +1,4 @@
-use mathlib.Core.List.{[], _∷_}
-use mathlib.Core.Path.{refl, ap, _∙_}
+use mathlib.Core.Path.{ap, _∙_}
 use Rattle.std.specs.Of.Vec.{vec-items}
 use Rattle.std.specs.Parts.{split-whitespace-rest}
 use Rattle.std.specs.Results.{isOk}

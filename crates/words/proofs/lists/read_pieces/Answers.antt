@@ -1,5 +1,4 @@
-use mathlib.Core.List.{_∷_, []}
-use mathlib.Core.Path.{ap, sym, subst}
+use mathlib.Core.Path.{sym, subst}
 use lib.Seq.{take-all}
 use Rattle.std.specs.Of.Vec.{vec-items}
 use Rattle.words.specs.Words.{Texts}
