@@ -15,7 +15,7 @@ use Rattle.costs.specs.declared.values.Widened.{Widened}
 use Rattle.costs.specs.declared.values.Widened.the-variants.{Allowed, Forbidden}
 use Rattle.costs.specs.declared.values.Worst.{Worst}
 use Rattle.tables.specs.Promises.{Reached, Settled}
-use Rattle.tables.specs.Steps.{Admissible, value, wide}
+use Rattle.tables.specs.Steps.{Admissible, value, AllAbsorbed, wide}
 use Rattle.tables.specs.Tables.{grid}
 use Rattle.tables.specs.declared.values.Step.{Step}
 
@@ -72,7 +72,9 @@ pub record Worked : Type 0 where
   pub settled-in-total : Settled total-operations 2 eights (total 8) (0 ∷ 1 ∷ [])
   -- two steps that may be made one after the other leave rows 0 1 and 0 0 of it, and their value is 8
   pub reached-in-total : Reached total-operations 2 eights settling (two-rows (total 0) (total 1) (total 0) (total 0)) (total 8)
-  -- the same in worst: roster 1 0, cost 5
+  -- in what they leave, both cells of roster 0 1 are absorbed by 8
+  pub absorbed-in-total : AllAbsorbed (widened total-operations) (grid (widened total-operations) 2 (two-rows (total 0) (total 1) (total 0) (total 0))) (Allowed (total 8)) (0 ∷ 1 ∷ [])
+  -- rows 0 5 and 4 8 in worst: roster 1 0 costs 5, and no roster costs less
   pub settled-in-worst : Settled worst-operations 2 (two-rows (worst 0) (worst 5) (worst 4) (worst 8)) (worst 5) (1 ∷ 0 ∷ [])
-  -- rows 0:0 1:50 and 1:30 2:1 in class: roster 1 0, cost 1:80
+  -- rows 0:0 1:50 and 1:30 2:1 in class: roster 1 0 costs 1:80, and no roster costs less
   pub settled-in-class : Settled class-operations 2 (two-rows (class 0 0) (class 1 50) (class 1 30) (class 2 1)) (class 1 80) (1 ∷ 0 ∷ [])

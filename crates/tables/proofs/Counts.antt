@@ -69,7 +69,7 @@ module _ (f : ℕ → ℕ) (small : (x : ℕ) → f x ≤ 1) where
   below-both (suc n) = omega (arith, small n, below-both n)
 
   -- n different numbers below n are all of them
-  pub all-counted : (n : ℕ) (xs : List ℕ) → length xs ≡ n → All (λ x. x < n) xs → Different xs → sumBy f xs ≡ below f n
+  all-counted : (n : ℕ) (xs : List ℕ) → length xs ≡ n → All (λ x. x < n) xs → Different xs → sumBy f xs ≡ below f n
   all-counted n xs whole there once =
       omega (arith, sum-both xs, below-both n, different-sum f n xs there once, different-sum other n xs there once)
 

@@ -10,7 +10,7 @@ use Rattle.std.specs.declared.option.Option.the-variants.{Some, None}
 use Rattle.std.proofs.shelf.Bits.{mul-add-lt, div-mul-add, mod-mul-add, div-below, mod-below}
 use Rattle.std.proofs.shelf.Tests.{cases-lt}
 use Rattle.costs.specs.Kinds.{Operations, Laws}
-use Rattle.tables.specs.LeastCells.{NoneInside, LeastInside, lesser, with-cell}
+use Rattle.tables.specs.LeastCells.{NoneInside, CellInside, LeastInside, lesser, with-cell}
 use Rattle.tables.specs.Steps.{in-set}
 use Rattle.tables.specs.declared.values.Least.{Least}
 
@@ -23,11 +23,7 @@ module _ {C : Type 0} (o : Operations C) (n : ℕ) (t : ℕ → ℕ → C) (rows
   cell-of k = t (k % n) (k / n)
 
   pub record Found (p : ℕ) (least : Least C) : Type 0 where
-    pub row-there : least .row < n
-    pub column-there : least .column < n
-    pub in-rows : in-set rows (least .row) ≡ true
-    pub in-columns : in-set columns (least .column) ≡ true
-    pub amount-is : least .amount ≡ t (least .row) (least .column)
+    pub inside : CellInside n t rows columns least
     pub at-most-seen : Seen (λ k. o .at-most (least .amount) (cell-of k) ≡ true) p
 
   -- what is known once the places below p are seen
@@ -50,11 +46,7 @@ module _ {C : Type 0} (o : Operations C) (n : ℕ) (t : ℕ → ℕ → C) (rows
   pub sofar-all : (p : ℕ) → n * n ≤ p → (r : Option (Least C)) → Sofar p r → Cases r (NoneInside n rows columns) (LeastInside o n t rows columns)
   sofar-all p all None none = seen-all (λ r c. ⊥) (λ k lt. none k (omega arith))
   sofar-all p all (Some least) found = record {
-    row-there = found .row-there;
-    column-there = found .column-there;
-    in-rows = found .in-rows;
-    in-columns = found .in-columns;
-    amount-is = found .amount-is;
+    inside = found .inside;
     at-most-all = seen-all (λ r c. o .at-most (least .amount) (t r c) ≡ true) (λ k lt. found .at-most-seen k (omega arith));
   }
 
@@ -70,11 +62,7 @@ module _ {C : Type 0} {o : Operations C} (laws : Laws o) (n : ℕ) (t : ℕ → 
 
     found-kept : (least : Least C) → Found o n t rows columns p least → (in-set rows (p % n) ≡ true → in-set columns (p / n) ≡ true → o .at-most (least .amount) (t (p % n) (p / n)) ≡ true) → Found o n t rows columns (p + 1) least
     found-kept least found here = record {
-      row-there = found .row-there;
-      column-there = found .column-there;
-      in-rows = found .in-rows;
-      in-columns = found .in-columns;
-      amount-is = found .amount-is;
+      inside = found .inside;
       at-most-seen = seen-more (λ k. o .at-most (least .amount) (t (k % n) (k / n)) ≡ true) (found .at-most-seen) here;
     }
 
@@ -85,11 +73,7 @@ module _ {C : Type 0} {o : Operations C} (laws : Laws o) (n : ℕ) (t : ℕ → 
     found-new i j old =
         let some : 0 < n = ⊎-elim (λ yes-some. yes-some) (λ none. absurd (no-place none)) (cases-lt 0 n) in
         record {
-          row-there = mod-below p n some;
-          column-there = div-below p n n some there;
-          in-rows = i;
-          in-columns = j;
-          amount-is = refl;
+          inside = record { row-there = mod-below p n some; column-there = div-below p n n some there; in-rows = i; in-columns = j; amount-is = refl };
           at-most-seen = seen-more (λ k. o .at-most (t (p % n) (p / n)) (t (k % n) (k / n)) ≡ true) old (λ _ _. laws .at-most-reflexive _);
         }
       where

@@ -68,7 +68,7 @@ module _ (rows columns : ℕ) where
       omega (arith, rows-counted (suc r) cs, sumBy-cons (bit columns) c cs, one-row (bit rows r) (bit columns c) (inside (suc r) cs) (outside (suc r) cs) (in-set rows r) (in-set columns c) (as-bit rows r) (as-bit columns c))
 
   -- a roster uses in both sets more cells than in neither, by the excess
-  pub more-inside : (n : ℕ) (cs : List ℕ) → Roster n cs → rows < 2 ^ n → columns < 2 ^ n → n ≤ ones rows + ones columns → inside 0 cs ≡ (ones rows + ones columns - n) + outside 0 cs
+  more-inside : (n : ℕ) (cs : List ℕ) → Roster n cs → rows < 2 ^ n → columns < 2 ^ n → n ≤ ones rows + ones columns → inside 0 cs ≡ (ones rows + ones columns - n) + outside 0 cs
   more-inside n cs roster rows-there columns-there enough =
       let whole = roster .every-row in
       let rows-met : from (bit rows) 0 (length cs) ≡ ones rows = omega (arith, from-below (bit rows) 0 (length cs) n (omega arith), bits-are-ones n rows rows-there) in

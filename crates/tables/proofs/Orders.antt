@@ -8,7 +8,7 @@ use Rattle.costs.specs.Kinds.{Operations, Laws, composed}
 use Rattle.tables.specs.Steps.{Absorbed}
 
 module _ {C : Type 0} {o : Operations C} (laws : Laws o) where
-  pub empty-right : (a : C) → o .compose a (o .empty) ≡ a
+  empty-right : (a : C) → o .compose a (o .empty) ≡ a
   empty-right a = laws .compose-commutes a (o .empty) ∙ laws .empty-neutral a
 
   -- what is composed with a cost never lowers it

@@ -43,7 +43,7 @@ module _ {C : Type 0} (o : Operations C) (n : ℕ) where
   getD-from s place (b ∷ cells) (suc k) m d e within = getD-from s (suc place) cells k m d (omega arith) (omega arith)
 
   -- what a place holds after a step
-  pub getD-stepped : (s : Step C) (cells : List C) (k : ℕ) (d : C) → k < length cells → getD (stepped o n s cells) k d ≡ changed-at o n s k (getD cells k d)
+  getD-stepped : (s : Step C) (cells : List C) (k : ℕ) (d : C) → k < length cells → getD (stepped o n s cells) k d ≡ changed-at o n s k (getD cells k d)
   getD-stepped s cells k d within = getD-from s 0 cells k k d (omega arith) within
 
   -- a place that is not in surplus
@@ -110,7 +110,7 @@ module _ {C : Type 0} (o : Operations C) (n : ℕ) where
   worths-wide (s ∷ steps) = ap₂ _∷_ (times-wide (excess n s) (s .amount)) (worths-wide steps)
 
   -- allowed amounts have an allowed value
-  pub value-wide : (steps : List (Step C)) → value (widened o) n (map wide steps) ≡ Allowed (value o n steps)
+  value-wide : (steps : List (Step C)) → value (widened o) n (map wide steps) ≡ Allowed (value o n steps)
   value-wide steps = ap (composed (widened o)) (worths-wide steps) ∙ composed-allowed o (map (taken o n) steps)
 
   changed-forbidden : (a : C) (i j : Bool) (b : Widened C) → is-forbidden (changed (widened o) (Allowed a) i j b) ≡ is-forbidden b

@@ -12,13 +12,17 @@ use Rattle.tables.specs.declared.values.Least.{Least}
 abbrev pub NoneInside : ℕ → ℕ → ℕ → Type 0
 NoneInside n rows columns = (r c : ℕ) → r < n → c < n → in-set rows r ≡ true → in-set columns c ≡ true → ⊥
 
--- a cell in both sets, with its row and column, that is at most every cell there
+-- a cell in both sets, with its row and column
+pub record CellInside {C : Type 0} (n : ℕ) (t : ℕ → ℕ → C) (rows columns : ℕ) (cell : Least C) : Type 0 where
+  pub row-there : cell .row < n
+  pub column-there : cell .column < n
+  pub in-rows : in-set rows (cell .row) ≡ true
+  pub in-columns : in-set columns (cell .column) ≡ true
+  pub amount-is : cell .amount ≡ t (cell .row) (cell .column)
+
+-- one that is at most every cell there
 pub record LeastInside {C : Type 0} (o : Operations C) (n : ℕ) (t : ℕ → ℕ → C) (rows columns : ℕ) (least : Least C) : Type 0 where
-  pub row-there : least .row < n
-  pub column-there : least .column < n
-  pub in-rows : in-set rows (least .row) ≡ true
-  pub in-columns : in-set columns (least .column) ≡ true
-  pub amount-is : least .amount ≡ t (least .row) (least .column)
+  pub inside : CellInside n t rows columns least
   pub at-most-all : AtMostInside o n t rows columns (least .amount)
 
 -- the lesser of the least cell so far and one cell more; of equal ones the earlier

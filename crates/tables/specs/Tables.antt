@@ -7,7 +7,7 @@ use lib.ListN.{length, getD}
 use Rattle.costs.specs.Kinds.{Operations, composed}
 use Rattle.tables.specs.Rosters.{Roster}
 
--- the table of n columns that lies row by row in a list; where the list is too short, a cell counts as empty
+-- the table of n columns that lies row by row in a list, by the place of a row and a column; where the list is too short, a cell counts as empty
 abbrev pub grid : {C : Type 0} → Operations C → ℕ → List C → ℕ → ℕ → C
 grid o n cells row column = getD cells (row * n + column) (o .empty)
 

@@ -13,7 +13,7 @@ use crate::values::Size;
 use crate::values::Step;
 use costs::kind::CostKind;
 
-// The cell in a row and a column; empty where the slice is too short.
+// The cell in a row and a column, by its place; empty where the slice is too short.
 pub fn cell_at<C: CostKind>(cells: &[C], size: Size, row: usize, column: usize) -> C
     ensures { λ r. ⌜ r ≡ grid operations (size .n) (now (cells .entry)) row column ⌝ }
 {

@@ -80,7 +80,7 @@ pub fn value<K: CostKind>(steps: &[Step<K>], size: Size) -> K
     z
 }
 
-// Whether a cell leaves the value `z` where it is, or lowers it.
+// Whether `z` with the cell is at most `z`.
 fn adds_nothing<C: CostKind>(z: C, cell: C) -> bool
     ensures { λ r. ⌜ r ≡ operations .at-most (operations .compose z cell) z ⌝ }
 {

@@ -52,7 +52,8 @@ impl<'a, K: CostKind> Table<'a, K> {
         at_most_inside(amount, self.cells, self.size, step.rows, step.columns)
     }
 
-    // The first row of a roster whose cell is not absorbed by the value `z`. Where there is none, the roster is cheapest.
+    // The first row of a roster whose cell is not absorbed by the value `z`.
+    // Where there is none, the roster is cheapest in every table from which steps of value `z` lead to this one.
     pub fn first_not_absorbed(&self, z: K, roster: &[u8]) -> Option<usize>
         ensures row { λ r. ⌜ BySome r (AllAbsorbed (widened operations) (at operations (now (self .entry))) (Allowed z) (now (roster .entry))) (λ row. FirstNotAbsorbed (widened operations) (at operations (now (self .entry))) (Allowed z) (now (roster .entry)) row) ⌝ }
         ensures cheapest { λ r. ⌜ BySome r (SettledWhereReached operations (side (now (self .entry))) (cells-of (now (self .entry))) z (now (roster .entry))) (λ _. Unit {0}) ⌝ }

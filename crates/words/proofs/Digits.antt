@@ -16,11 +16,11 @@ use Rattle.std.proofs.shelf.Patterns.{SplitAt, split-parts}
 use Rattle.words.specs.Words.{NumberText, PairText}
 
 -- digits write one number
-pub number-one : {a b : ℕ} {bs : List ℕ} {m n : ℕ} → NumberText a bs m → NumberText b bs n → m ≡ n
+number-one : {a b : ℕ} {bs : List ℕ} {m n : ℕ} → NumberText a bs m → NumberText b bs n → m ≡ n
 number-one t u = sym (t .is) ∙ u .is
 
 -- a number that is small enough has so few bits
-pub narrow : {a : ℕ} {bs : List ℕ} {n : ℕ} (bits : ℕ) → NumberText a bs n → n < 2 ^ bits → NumberText bits bs n
+narrow : {a : ℕ} {bs : List ℕ} {n : ℕ} (bits : ℕ) → NumberText a bs n → n < 2 ^ bits → NumberText bits bs n
 narrow bits t small = record { digits = t .digits; is = t .is; small = small }
 
 pub widen : {bs : List ℕ} {n : ℕ} (bits : ℕ) → bits ≤ 64 → NumberText bits bs n → NumberText 64 bs n
@@ -73,7 +73,7 @@ pair-joined {between} {bs = bs} first second cut ascii m-is n-is = record {
 }
 
 module _ {between a b : ℕ} {bs : List ℕ} {m n : ℕ} (t : PairText between a b bs m n) where
-  pub pair-narrow : (c d : ℕ) → m < 2 ^ c → n < 2 ^ d → PairText between c d bs m n
+  pair-narrow : (c d : ℕ) → m < 2 ^ c → n < 2 ^ d → PairText between c d bs m n
   pair-narrow c d small small-too = record {
     first-text = t .first-text;
     second-text = t .second-text;

@@ -13,7 +13,7 @@ use Rattle.words.proofs.Pieces.{behind}
 abbrev pub WordsSofar : List ℕ → List ℕ → List (List ℕ) → Type 0
 WordsSofar line rest found = (ws : List (List ℕ)) → WordsOf rest ws → WordsOf line (found ++ ws)
 
-pub words-more : (line rest next w : List ℕ) (found : List (List ℕ)) → WordsSofar line rest found → FirstWord rest w next → WordsSofar line next (found ++ (w ∷ []))
+words-more : (line rest next w : List ℕ) (found : List (List ℕ)) → WordsSofar line rest found → FirstWord rest w next → WordsSofar line next (found ++ (w ∷ []))
 words-more line rest next w found sofar first = λ ws h. subst (WordsOf line) (sym (append-assoc found (w ∷ []) ws)) (sofar (w ∷ ws) (next, first, h))
 
 pub words-all : (line rest : List ℕ) (found : List (List ℕ)) → WordsSofar line rest found → WordsOf rest [] → WordsOf line found

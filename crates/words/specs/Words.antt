@@ -1,4 +1,4 @@
--- The words of a request. Assumes nothing.
+-- The words of a line, and what they write. Assumes nothing.
 use mathlib.Core.Path.{_≡_}
 use mathlib.Core.Logic.{_⊎_}
 use mathlib.Core.List.{List, [], _∷_, _++_}

@@ -1,4 +1,4 @@
-// Requests as text: the words of a line, and the kinds, numbers, duties, costs and lists that words write.
+// The words of a line, and the kinds, numbers, duties, costs and lists that words write.
 pub mod cells;
 pub mod cut;
 pub mod items;

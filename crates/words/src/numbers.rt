@@ -5,11 +5,11 @@ ghost use Rattle.std.specs.Text.{In};
 ghost use Rattle.words.specs.Words.{NumberText, PairText};
 
 // A number of so many bits is below its limit.
-pub const LIMIT_8: u64 = 256;
+pub(crate) const LIMIT_8: u64 = 256;
 
-pub const LIMIT_16: u64 = 65_536;
+pub(crate) const LIMIT_16: u64 = 65_536;
 
-pub const LIMIT_32: u64 = 4_294_967_296;
+pub(crate) const LIMIT_32: u64 = 4_294_967_296;
 
 // A number with no sign.
 pub fn number(word: &str) -> Option<u64>

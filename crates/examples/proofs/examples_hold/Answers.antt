@@ -1,5 +1,5 @@
 use mathlib.Core.Path.{_≡_, refl, sym, ap, ap₂, _∙_}
-use mathlib.Core.Bool.{true, false≢true}
+use mathlib.Core.Bool.{false≢true}
 use Prim.Native.Nat.{ℕ, _+_, _-_}
 use native.Mathlib.Omega.{arith}
 use lib.Count.{ones, ones-step, ones-ones}
@@ -71,6 +71,7 @@ returns c = record {
     left = same-rows _ _ _ _ _ _ _ _ refl refl refl refl;
     value-is = same-total (total 8) (taken-twice 1 1) refl ∙ sym (ap₂ (λ x y. taken-twice (x + y - 2) (y + x - 2)) one-member two-members);
   };
+  absorbed-in-total = (ap Allowed (same-total _ _ refl), (ap Allowed (same-total _ _ refl), tt));
   settled-in-worst = record {
     costs-value = ap Allowed (same-worst _ _ refl);
     cheapest = cheapest-of-two _ _ 1 0 (λ e. omega (arith, e)) (omega arith) (omega arith) refl refl;
