@@ -1,4 +1,3 @@
-pub mod Chosen
 pub mod Kept
 pub mod Texts
 pub mod Weights

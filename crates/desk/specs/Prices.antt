@@ -20,6 +20,7 @@ use Rattle.words.specs.declared.kinds.Kind.the-variants.{Total, Worst, Class}
 use Rattle.std.specs.declared.result.Result.{Result}
 use Rattle.std.specs.declared.result.Result.the-variants.{Ok, Err}
 use Rattle.tables.specs.Rosters.{Roster}
+use Rattle.tables.specs.Tables.{chosen}
 use Rattle.desk.specs.declared.price.Price.{Price}
 use Rattle.desk.specs.declared.price.Price.the-variants.{InTotal, InWorst, InClass}
 use Rattle.desk.specs.declared.price.Unpriced.{Unpriced}
@@ -29,22 +30,20 @@ use Rattle.desk.specs.declared.price.Unpriced.the-variants.{DutyCount, LaterCo
 abbrev pub no-duty : Duty
 no-duty = record { start = 0; finish = 0 }
 
--- the cell that the roster chooses in each row: the earlier duty of the row, and the later duty of the row's column
-abbrev pub chosen : {C : Type 0} → Written C → List Duty → List Duty → List ℕ → List (Widened C)
-chosen w [] later columns = []
-chosen w (e ∷ earlier) later [] = []
-chosen w (e ∷ earlier) later (c ∷ columns) = gauged w e (getD later c no-duty) ∷ chosen w earlier later columns
+-- the cell of an earlier and a later duty, by the rest gauge
+abbrev pub gauged-grid : {C : Type 0} → Written C → List Duty → List Duty → ℕ → ℕ → Widened C
+gauged-grid w earlier later row column = gauged w (getD earlier row no-duty) (getD later column no-duty)
 
 abbrev pub Priced : Kind → List Duty → List Duty → List ℕ → Price → Type 0
-Priced Total earlier later columns (InTotal r) = CostOf Sum (chosen total-written earlier later columns) r
+Priced Total earlier later columns (InTotal r) = CostOf Sum (chosen (gauged-grid total-written earlier later) columns) r
 Priced Total earlier later columns (InWorst r) = ⊥
 Priced Total earlier later columns (InClass r) = ⊥
 Priced Worst earlier later columns (InTotal r) = ⊥
-Priced Worst earlier later columns (InWorst r) = CostOf Highest (chosen worst-written earlier later columns) r
+Priced Worst earlier later columns (InWorst r) = CostOf Highest (chosen (gauged-grid worst-written earlier later) columns) r
 Priced Worst earlier later columns (InClass r) = ⊥
 Priced Class earlier later columns (InTotal r) = ⊥
 Priced Class earlier later columns (InWorst r) = ⊥
-Priced Class earlier later columns (InClass r) = CostOf HighestClass (chosen class-written earlier later columns) r
+Priced Class earlier later columns (InClass r) = CostOf HighestClass (chosen (gauged-grid class-written earlier later) columns) r
 
 -- one to thirty-two duties a day
 abbrev pub Counted : List Duty → Type 0

@@ -1,8 +1,9 @@
 // `price`: what a roster by hand costs between two days' duties.
 ghost use mathlib.Core.Path.{_≡_};
 ghost use lib.ListN.{length};
-ghost use Rattle.desk.specs.Prices.{chosen, Priced, Answered};
+ghost use Rattle.desk.specs.Prices.{gauged-grid, Priced, Answered};
 ghost use Rattle.tables.specs.Rosters.{Roster};
+ghost use Rattle.tables.specs.Tables.{chosen};
 ghost use Rattle.std.specs.Of.Vec.{vec-items};
 ghost use Rattle.std.specs.Vec.{made};
 use costs::class::ClassWritten;
@@ -22,6 +23,7 @@ use costs::worst::WorstWritten;
 use std::alloc::AllocError;
 use std::alloc::Global;
 use tables::rosters::is_roster;
+use tables::values::MOST_ROWS;
 use words::kinds::Kind;
 
 #[derive(Clone, Copy)]
@@ -41,8 +43,6 @@ pub enum Unpriced {
     NoMemory,
 }
 
-const MOST_DUTIES: usize = 32;
-
 // The cell that the roster chooses in each row.
 fn chosen_cells<K: WrittenKind>(
     heap: Global,
@@ -52,7 +52,7 @@ fn chosen_cells<K: WrittenKind>(
 ) -> Result<Vec<Widened<K>>, AllocError>
     requires rows { ⌜ length (now earlier) ≡ length (now roster) ⌝ }
     requires roster { ⌜ Roster (length (now later)) (now roster) ⌝ }
-    ensures { λ r. ⌜ made r (λ v. vec-items v ≡ chosen written (now (earlier .entry)) (now (later .entry)) (now (roster .entry))) ⌝ }
+    ensures { λ r. ⌜ made r (λ v. vec-items v ≡ chosen (gauged-grid written (now (earlier .entry)) (now (later .entry))) (now (roster .entry))) ⌝ }
 {
     let mut cells = Vec::new(heap);
     for i in 0..earlier.len() {
@@ -99,7 +99,7 @@ pub fn price_roster(
     ensures { λ r. ⌜ Answered kind (now (earlier .entry)) (now (later .entry)) (now (roster .entry)) r ⌝ }
 {
     let n = earlier.len();
-    if n < 1 || n > MOST_DUTIES {
+    if n < 1 || n > MOST_ROWS {
         return Err(Unpriced::DutyCount);
     }
     if later.len() != n {
