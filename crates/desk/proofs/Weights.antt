@@ -1,7 +1,6 @@
 -- From what a roster costs in a table to what is answered to the words for them. Assumes nothing.
 use mathlib.Core.Path.{_≡_, refl, sym, subst}
 use mathlib.Core.List.{List}
-use mathlib.Core.Logic.{inl, inr, ⊎-elim}
 use Prim.Native.Nat.{ℕ}
 use Rattle.std.specs.declared.result.Result.{Result}
 use Rattle.std.specs.declared.result.Result.the-variants.{Ok, Err}
@@ -12,10 +11,12 @@ use Rattle.costs.specs.declared.values.Widened.{Widened}
 use Rattle.costs.proofs.PlainCosts.{cost-of, total-means, worst-means, class-means}
 use Rattle.words.specs.declared.kinds.Kind.{Kind}
 use Rattle.words.specs.declared.kinds.Kind.the-variants.{Total, Worst, Class}
-use Rattle.desk.specs.Weighing.{TableWords, TableWeighed, WordsWeighed, cost-type, operations-of, text-of, means-of, price-in, KindWeighed}
+use Rattle.desk.specs.Weighing.{TableWords, TableWeighed, Heard, WordsWeighed, cost-type, operations-of, text-of, means-of, price-in, KindWeighed}
 use Rattle.desk.specs.declared.price.Price.{Price}
-use Rattle.desk.specs.declared.weigh.WeighFault.{WeighFault}
-use Rattle.desk.specs.declared.weigh.WeighFault.the-variants.{NoKind, NoSize, NoCells, NoColumns, CellCount, NoRoster, NoMemoryLeft}
+use Rattle.desk.specs.declared.faults.WeighFault.{WeighFault}
+use Rattle.desk.specs.declared.faults.WeighFault.the-variants.{NoKind, NoSize, NoCells, NoColumns, NotWeighed, NoMemoryLeft}
+use Rattle.desk.specs.declared.weigh.Unweighed.{Unweighed}
+use Rattle.desk.specs.declared.weigh.Unweighed.the-variants.{CellCount, NoRoster}
 
 -- chosen cells cost their composition
 abbrev pub Composed : {C : Type 0} → Operations C → List (Widened C) → Widened C → Type 0
@@ -23,22 +24,22 @@ Composed o cells cost = cost ≡ composed (widened o) cells
 
 module _ {C : Type 0} (o : Operations C) (Means : List C → C → Type 0) (means : (cs : List C) → Means cs (composed o cs)) where
   -- the same in whole numbers
-  table-in-numbers : (n : ℕ) (cells : List (Widened C)) (columns : List ℕ) (r : Result (Widened C) WeighFault) → TableWeighed o (Composed o) n cells columns r → TableWeighed o (CostOf Means) n cells columns r
+  table-in-numbers : (n : ℕ) (cells : List (Widened C)) (columns : List ℕ) (r : Result (Widened C) Unweighed) → TableWeighed o (Composed o) n cells columns r → TableWeighed o (CostOf Means) n cells columns r
   table-in-numbers n cells columns (Ok cost) h = record { whole = h .whole; roster = h .roster; cost = cost-of o Means means _ cost (h .cost) }
-  table-in-numbers n cells columns (Err NoKind) h = h
-  table-in-numbers n cells columns (Err NoSize) h = h
-  table-in-numbers n cells columns (Err NoCells) h = h
-  table-in-numbers n cells columns (Err NoColumns) h = h
   table-in-numbers n cells columns (Err CellCount) h = h
   table-in-numbers n cells columns (Err NoRoster) h = h
-  table-in-numbers n cells columns (Err NoMemoryLeft) h = h
 
-  pub in-numbers : (Text : List ℕ → C → Type 0) (q : TableWords) (r : Result (Widened C) WeighFault) → WordsWeighed o Text (Composed o) q r → WordsWeighed o Text (CostOf Means) q r
-  in-numbers Text q r h =
-      ⊎-elim
-      inl
-      (λ h. inr (record { n = h .n; cells = h .cells; columns = h .columns; says = h .says; weighed = table-in-numbers (h .n) (h .cells) (h .columns) r (h .weighed) }))
-      h
+  heard-in-numbers : (Text : List ℕ → C → Type 0) (q : TableWords) (r : Result (Widened C) Unweighed) → Heard o Text (Composed o) q r → Heard o Text (CostOf Means) q r
+  heard-in-numbers Text q r h = record { n = h .n; cells = h .cells; columns = h .columns; says = h .says; weighed = table-in-numbers (h .n) (h .cells) (h .columns) r (h .weighed) }
+
+  in-numbers : (Text : List ℕ → C → Type 0) (q : TableWords) (r : Result (Widened C) WeighFault) → WordsWeighed o Text (Composed o) q r → WordsWeighed o Text (CostOf Means) q r
+  in-numbers Text q (Ok cost) h = heard-in-numbers Text q (Ok cost) h
+  in-numbers Text q (Err NoKind) h = h
+  in-numbers Text q (Err NoSize) h = h
+  in-numbers Text q (Err NoCells) h = h
+  in-numbers Text q (Err NoColumns) h = h
+  in-numbers Text q (Err (NotWeighed why)) h = heard-in-numbers Text q (Err why) h
+  in-numbers Text q (Err NoMemoryLeft) h = h
 
 means : (k : Kind) (cs : List (cost-type k)) → means-of k cs (composed (operations-of k) cs)
 means Total cs = total-means cs

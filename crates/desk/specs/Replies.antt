@@ -31,11 +31,11 @@ pub record PriceWords : Type 0 where
   pub later-word : List ℕ
   pub roster-word : List ℕ
 
-abbrev pub request : PriceWords → List (List ℕ)
-request q = codes "price" ∷ q .kind-word ∷ q .earlier-word ∷ q .later-word ∷ q .roster-word ∷ []
+abbrev pub price-request : PriceWords → List (List ℕ)
+price-request q = codes "price" ∷ q .kind-word ∷ q .earlier-word ∷ q .later-word ∷ q .roster-word ∷ []
 
 -- what they say
-pub record Says (q : PriceWords) (kind : Kind) (earlier later : List Duty) (columns : List ℕ) : Type 0 where
+pub record PriceSays (q : PriceWords) (kind : Kind) (earlier later : List Duty) (columns : List ℕ) : Type 0 where
   pub kind-is : q .kind-word ≡ kind-name kind
   pub earlier-is : ListText DutyText (q .earlier-word) earlier
   pub later-is : ListText DutyText (q .later-word) later
@@ -47,7 +47,7 @@ pub record PriceAnswer (q : PriceWords) (answer : Result Price Unpriced) : Type 
   pub earlier : List Duty
   pub later : List Duty
   pub columns : List ℕ
-  pub says : Says q kind earlier later columns
+  pub says : PriceSays q kind earlier later columns
   pub answered : Answered kind earlier later columns answer
 
 -- the reply to a price request that is priced
@@ -64,7 +64,7 @@ PriceError q NoKind = Named (q .kind-word) → ⊥
 PriceError q NoDuties = Named (q .kind-word) × (NoList DutyText (q .earlier-word) ⊎ (ListsDuties (q .earlier-word) × NoList DutyText (q .later-word)))
 PriceError q NoColumns = Named (q .kind-word) × ListsDuties (q .earlier-word) × ListsDuties (q .later-word) × NoList (NumberText 8) (q .roster-word)
 PriceError q (NotPriced why) = PriceAnswer q (Err why)
-PriceError q NoMemoryLeft = Unit {0}
+PriceError q NoMemoryLeft = Named (q .kind-word)
 
 -- what is answered to a price request
 abbrev pub PriceAnswered : {A : Type 0} → PriceWords → Result (String A) PriceFault → Type 0
@@ -75,14 +75,14 @@ PriceAnswered q (Err why) = PriceError q why
 abbrev pub WordsReplied : {A : Type 0} → List (List ℕ) → Result (Option (String A)) Fault → Type 0
 WordsReplied words (Ok None) = words ≡ []
 WordsReplied words (Ok (Some s)) =
-    ((q : PriceWords) × (words ≡ request q) × PriceReply q (string-bytes s)) ⊎ ((k : List ℕ) × (q : TableWords) × (words ≡ weigh-request k q) × WeighReply k q (string-bytes s))
+    ((q : PriceWords) × (words ≡ price-request q) × PriceReply q (string-bytes s)) ⊎ ((k : List ℕ) × (q : TableWords) × (words ≡ weigh-request k q) × WeighReply k q (string-bytes s))
 WordsReplied words (Err NotText) = ⊥
 WordsReplied words (Err NoRequest) = (first : List ℕ) × (others : List (List ℕ)) × (words ≡ first ∷ others) × (first ≡ codes "price" → ⊥) × (first ≡ codes "weigh" → ⊥)
 WordsReplied words (Err NotPrice) = (others : List (List ℕ)) × (words ≡ codes "price" ∷ others) × (length others ≡ 4 → ⊥)
 WordsReplied words (Err NotWeigh) = (others : List (List ℕ)) × (words ≡ codes "weigh" ∷ others) × (length others ≡ 4 → ⊥)
-WordsReplied words (Err (InPrice why)) = (q : PriceWords) × (words ≡ request q) × PriceError q why
+WordsReplied words (Err (InPrice why)) = (q : PriceWords) × (words ≡ price-request q) × PriceError q why
 WordsReplied words (Err (InWeigh why)) = (k : List ℕ) × (q : TableWords) × (words ≡ weigh-request k q) × WeighError k q why
-WordsReplied words (Err OutOfMemory) = Unit {0}
+WordsReplied words (Err OutOfMemory) = ⊥
 
 -- a line that begins with #
 abbrev pub Comment : List ℕ → Type 0

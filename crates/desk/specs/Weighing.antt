@@ -27,8 +27,10 @@ use Rattle.words.specs.declared.kinds.Kind.the-variants.{Total, Worst, Class}
 use Rattle.desk.specs.Prices.{price-text, Named}
 use Rattle.desk.specs.declared.price.Price.{Price}
 use Rattle.desk.specs.declared.price.Price.the-variants.{InTotal, InWorst, InClass}
-use Rattle.desk.specs.declared.weigh.WeighFault.{WeighFault}
-use Rattle.desk.specs.declared.weigh.WeighFault.the-variants.{NoKind, NoSize, NoCells, NoColumns, CellCount, NoRoster, NoMemoryLeft}
+use Rattle.desk.specs.declared.faults.WeighFault.{WeighFault}
+use Rattle.desk.specs.declared.faults.WeighFault.the-variants.{NoKind, NoSize, NoCells, NoColumns, NotWeighed, NoMemoryLeft}
+use Rattle.desk.specs.declared.weigh.Unweighed.{Unweighed}
+use Rattle.desk.specs.declared.weigh.Unweighed.the-variants.{CellCount, NoRoster}
 
 -- the words for a table and a roster
 pub record TableWords : Type 0 where
@@ -46,7 +48,7 @@ pub record SizeText (word : List ℕ) (n : ℕ) : Type 0 where
   pub few : n ≤ 32
 
 -- what the words for rows, cells and roster say, where `Text` tells which text writes which cost
-pub record Says {C : Type 0} (Text : List ℕ → C → Type 0) (q : TableWords) (n : ℕ) (cells : List (Widened C)) (columns : List ℕ) : Type 0 where
+pub record TableSays {C : Type 0} (Text : List ℕ → C → Type 0) (q : TableWords) (n : ℕ) (cells : List (Widened C)) (columns : List ℕ) : Type 0 where
   pub size-is : SizeText (q .size-word) n
   pub cells-are : ListText (CellText Text) (q .cells-word) cells
   pub columns-are : ListText (NumberText 8) (q .roster-word) columns
@@ -58,22 +60,17 @@ pub record Weighed {C : Type 0} (o : Operations C) (Costs : List (Widened C) →
   pub cost : Costs (chosen (grid (widened o) n cells) columns) r
 
 -- the cost, or the first thing that is wrong with the table and the roster: the number of cells, then the roster
-abbrev pub TableWeighed : {C : Type 0} → Operations C → (List (Widened C) → Widened C → Type 0) → ℕ → List (Widened C) → List ℕ → Result (Widened C) WeighFault → Type 0
+abbrev pub TableWeighed : {C : Type 0} → Operations C → (List (Widened C) → Widened C → Type 0) → ℕ → List (Widened C) → List ℕ → Result (Widened C) Unweighed → Type 0
 TableWeighed o Costs n cells columns (Ok r) = Weighed o Costs n cells columns r
-TableWeighed o Costs n cells columns (Err NoKind) = ⊥
-TableWeighed o Costs n cells columns (Err NoSize) = ⊥
-TableWeighed o Costs n cells columns (Err NoCells) = ⊥
-TableWeighed o Costs n cells columns (Err NoColumns) = ⊥
 TableWeighed o Costs n cells columns (Err CellCount) = length cells ≡ n * n → ⊥
 TableWeighed o Costs n cells columns (Err NoRoster) = (length cells ≡ n * n) × (Roster n columns → ⊥)
-TableWeighed o Costs n cells columns (Err NoMemoryLeft) = ⊥
 
 -- what is answered to words that say something
-pub record Heard {C : Type 0} (o : Operations C) (Text : List ℕ → C → Type 0) (Costs : List (Widened C) → Widened C → Type 0) (q : TableWords) (r : Result (Widened C) WeighFault) : Type 0 where
+pub record Heard {C : Type 0} (o : Operations C) (Text : List ℕ → C → Type 0) (Costs : List (Widened C) → Widened C → Type 0) (q : TableWords) (r : Result (Widened C) Unweighed) : Type 0 where
   pub n : ℕ
   pub cells : List (Widened C)
   pub columns : List ℕ
-  pub says : Says Text q n cells columns
+  pub says : TableSays Text q n cells columns
   pub weighed : TableWeighed o Costs n cells columns r
 
 abbrev pub NamesSize : List ℕ → Type 0
@@ -82,20 +79,15 @@ NamesSize word = (n : ℕ) × SizeText word n
 abbrev pub ListsCells : {C : Type 0} → (List ℕ → C → Type 0) → List ℕ → Type 0
 ListsCells {C} Text word = (cells : List (Widened C)) × ListText (CellText Text) word cells
 
--- what is answered to words that say nothing: the first that cannot be read, the number of rows, the cells or the roster; memory may be wanting
-abbrev pub Unread : {C : Type 0} → (List ℕ → C → Type 0) → TableWords → Result (Widened C) WeighFault → Type 0
-Unread Text q (Ok r) = ⊥
-Unread Text q (Err NoKind) = ⊥
-Unread Text q (Err NoSize) = NamesSize (q .size-word) → ⊥
-Unread Text q (Err NoCells) = NamesSize (q .size-word) × NoList (CellText Text) (q .cells-word)
-Unread Text q (Err NoColumns) = NamesSize (q .size-word) × ListsCells Text (q .cells-word) × NoList (NumberText 8) (q .roster-word)
-Unread Text q (Err CellCount) = ⊥
-Unread Text q (Err NoRoster) = ⊥
-Unread Text q (Err NoMemoryLeft) = Unit {0}
-
--- what is answered to the words for a table and a roster
+-- what is answered to the words for a table and a roster; an error names the first that cannot be read, the number of rows, the cells or the roster, or else what is wrong with them; memory may be wanting behind the number of rows
 abbrev pub WordsWeighed : {C : Type 0} → Operations C → (List ℕ → C → Type 0) → (List (Widened C) → Widened C → Type 0) → TableWords → Result (Widened C) WeighFault → Type 0
-WordsWeighed o Text Costs q r = Unread Text q r ⊎ Heard o Text Costs q r
+WordsWeighed o Text Costs q (Ok r) = Heard o Text Costs q (Ok r)
+WordsWeighed o Text Costs q (Err NoKind) = ⊥
+WordsWeighed o Text Costs q (Err NoSize) = NamesSize (q .size-word) → ⊥
+WordsWeighed o Text Costs q (Err NoCells) = NamesSize (q .size-word) × NoList (CellText Text) (q .cells-word)
+WordsWeighed o Text Costs q (Err NoColumns) = NamesSize (q .size-word) × ListsCells Text (q .cells-word) × NoList (NumberText 8) (q .roster-word)
+WordsWeighed o Text Costs q (Err (NotWeighed why)) = Heard o Text Costs q (Err why)
+WordsWeighed o Text Costs q (Err NoMemoryLeft) = NamesSize (q .size-word)
 
 -- the costs of each kind, their texts, and what they come to in whole numbers
 abbrev pub cost-type : Kind → Type 0
@@ -128,7 +120,7 @@ abbrev pub KindWeighed : Kind → TableWords → Result Price WeighFault → Typ
 KindWeighed k q (Ok price) = (r : Widened (cost-type k)) × (price ≡ price-in k r) × WordsWeighed (operations-of k) (text-of k) (CostOf (means-of k)) q (Ok r)
 KindWeighed k q (Err why) = WordsWeighed (operations-of k) (text-of k) (CostOf (means-of k)) q (Err why)
 
--- what is answered to a weigh request whose first word names a kind
+-- what is answered to a weigh request where the word behind `weigh` names a kind
 abbrev pub InKind : List ℕ → TableWords → Result Price WeighFault → Type 0
 InKind kind-word q r = (k : Kind) × (kind-word ≡ kind-name k) × KindWeighed k q r
 

@@ -11,9 +11,10 @@ use crate::faults::Fault;
 use crate::faults::FaultFromAlloc;
 use crate::faults::PriceFault;
 use crate::faults::PriceFaultFromAlloc;
+use crate::faults::WeighFault;
+use crate::faults::WeighFaultFromAlloc;
 use crate::price::Price;
 use crate::price::price_roster;
-use crate::weigh::WeighFault;
 use crate::weigh::weigh;
 use costs::show::ClassDisplay;
 use costs::show::TotalDisplay;
@@ -135,10 +136,7 @@ fn answer_weigh(
         return Err(WeighFault::NoKind);
     };
     match weigh(heap, kind, size, cells, roster) {
-        Ok(price) => match price_text(heap, price) {
-            Ok(text) => Ok(text),
-            Err(_) => Err(WeighFault::NoMemoryLeft),
-        },
+        Ok(price) => Ok(price_text(heap, price)?),
         Err(why) => Err(why),
     }
 }

@@ -2,8 +2,9 @@
 ghost use mathlib.Core.Path.{_≡_};
 ghost use Rattle.desk.specs.declared.faults.Fault.the-variants.{OutOfMemory};
 ghost use Rattle.desk.specs.declared.faults.PriceFault.the-variants.{NoMemoryLeft};
+ghost use Rattle.desk.specs.declared.faults.WeighFault.the-variants.{NoMemoryLeft as NoRoomLeft};
 use crate::price::Unpriced;
-use crate::weigh::WeighFault;
+use crate::weigh::Unweighed;
 use std::alloc::AllocError;
 use std::fmt;
 
@@ -13,6 +14,16 @@ pub enum PriceFault {
     NoDuties,
     NoColumns,
     NotPriced(Unpriced),
+    NoMemoryLeft,
+}
+
+#[derive(Clone, Copy)]
+pub enum WeighFault {
+    NoKind,
+    NoSize,
+    NoCells,
+    NoColumns,
+    NotWeighed(Unweighed),
     NoMemoryLeft,
 }
 
@@ -32,6 +43,14 @@ pub impl From<AllocError> for PriceFault as PriceFaultFromAlloc {
 
     fn from(_e: AllocError) -> PriceFault {
         PriceFault::NoMemoryLeft
+    }
+}
+
+pub impl From<AllocError> for WeighFault as WeighFaultFromAlloc {
+    ghost converts = { λ _ r. r ≡ NoRoomLeft };
+
+    fn from(_e: AllocError) -> WeighFault {
+        WeighFault::NoMemoryLeft
     }
 }
 
@@ -74,6 +93,16 @@ impl PriceFault {
     }
 }
 
+impl Unweighed {
+    fn message(self) -> &'static str {
+        match self {
+            Unweighed::CellCount => "expected a cell for each row and column, row by row",
+            Unweighed::NoRoster =>
+                "expected a column below the number of rows for each row, and none twice",
+        }
+    }
+}
+
 impl WeighFault {
     fn message(self) -> &'static str {
         match self {
@@ -82,9 +111,7 @@ impl WeighFault {
             WeighFault::NoCells =>
                 "expected cells as COST,COST,.., each a number (in class CLASS:MINUTES) or - for forbidden",
             WeighFault::NoColumns => COLUMN_LIST,
-            WeighFault::CellCount => "expected a cell for each row and column, row by row",
-            WeighFault::NoRoster =>
-                "expected a column below the number of rows for each row, and none twice",
+            WeighFault::NotWeighed(why) => why.message(),
             WeighFault::NoMemoryLeft => MORE_MEMORY,
         }
     }

@@ -5,6 +5,7 @@ ghost use Rattle.costs.specs.Kinds.{composed};
 ghost use Rattle.costs.specs.Wide.{widened};
 ghost use Rattle.desk.specs.Weighing.{SizeText, TableWeighed, WordsWeighed, KindWeighed};
 ghost use Rattle.std.specs.Options.{Cases as BySome};
+use crate::faults::WeighFault;
 use crate::price::Price;
 use costs::class::ClassKind;
 use costs::kind::CostKind;
@@ -29,15 +30,11 @@ use words::kinds::Kind;
 use words::lists::list_or;
 use words::numbers::number;
 
+// Why a roster has no cost in a table.
 #[derive(Clone, Copy)]
-pub enum WeighFault {
-    NoKind,
-    NoSize,
-    NoCells,
-    NoColumns,
+pub enum Unweighed {
     CellCount,
     NoRoster,
-    NoMemoryLeft,
 }
 
 // A number of rows.
@@ -54,15 +51,16 @@ fn weigh_table<K: CostKind>(
     size: Size,
     cells: &mut [Widened<K>],
     roster: &[u8],
-) -> Result<Widened<K>, WeighFault>
-    ensures { λ r. ⌜ TableWeighed operations (λ cells cost. cost ≡ composed (widened operations) cells) (size .n) (now (cells .entry)) (now (roster .entry)) r ⌝ }
+) -> Result<Widened<K>, Unweighed>
+    ensures kept { λ _. ⌜ now (cells .exit) ≡ now (cells .entry) ⌝ }
+    ensures answer { λ r. ⌜ TableWeighed operations (λ cells cost. cost ≡ composed (widened operations) cells) (size .n) (now (cells .entry)) (now (roster .entry)) r ⌝ }
 {
     let n = size.rows();
     if cells.len() != n * n {
-        return Err(WeighFault::CellCount);
+        return Err(Unweighed::CellCount);
     }
     if !is_roster(roster, n) {
-        return Err(WeighFault::NoRoster);
+        return Err(Unweighed::NoRoster);
     }
     let table = Table { cells, size };
     Ok(table.cost(roster))
@@ -80,25 +78,22 @@ fn weigh_words<K: CostKind + Item>(
     let Some(size) = read_size(size) else {
         return Err(WeighFault::NoSize);
     };
-    let mut cells = match list_or::<Widened<K>, WeighFault>(
+    let mut cells = list_or::<Widened<K>, WeighFault>(
         heap,
         cells,
         WeighFault::NoCells,
         WeighFault::NoMemoryLeft,
-    ) {
-        Ok(cells) => cells,
-        Err(why) => return Err(why),
-    };
-    let columns = match list_or::<u8, WeighFault>(
+    )?;
+    let columns = list_or::<u8, WeighFault>(
         heap,
         roster,
         WeighFault::NoColumns,
         WeighFault::NoMemoryLeft,
-    ) {
-        Ok(columns) => columns,
-        Err(why) => return Err(why),
-    };
-    weigh_table(size, cells.as_mut_slice(), columns.as_slice())
+    )?;
+    match weigh_table(size, cells.as_mut_slice(), columns.as_slice()) {
+        Ok(cost) => Ok(cost),
+        Err(why) => Err(WeighFault::NotWeighed(why)),
+    }
 }
 
 // The cost in the named kind.
