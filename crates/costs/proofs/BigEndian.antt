@@ -1,5 +1,5 @@
 -- A number below 256^k and its k bytes, the highest first, go to and fro. Assumes nothing.
-use mathlib.Core.Path.{_≡_, refl, sym, ap, subst, _∙_}
+use mathlib.Core.Path.{_≡_, refl, sym, ap, _∙_}
 use mathlib.Core.List.{List, [], _∷_, _++_}
 use Prim.Native.Nat.{ℕ, zero, suc, _+_, _*_, _/_, _%_, _^_, _≤_, _<_}
 use native.Mathlib.Nat.{pow-suc, pow-succ', pow-le-pow-right, div-one, div-add-mod', div-div-eq-div-mul, div-lt-iff-lt-mul, mod-lt, mod-eq-of-lt}

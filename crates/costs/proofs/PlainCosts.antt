@@ -1,29 +1,28 @@
 -- A row of cells costs, in whole numbers, the sum, the highest, or the highest class with its minutes. Assumes nothing.
-use mathlib.Core.Path.{_≡_, refl, sym, ap, subst, _∙_}
-use mathlib.Core.Bool.{Bool, true, false, cond}
+use mathlib.Core.Path.{_≡_, refl, sym, ap, _∙_}
+use mathlib.Core.Bool.{cond}
 use mathlib.Core.List.{List, [], _∷_, map}
-use Prim.Native.Nat.{ℕ, _+_, _*_, _-_, _^_, _≤_, _<_, min, max}
+use Prim.Native.Nat.{ℕ, _+_, _-_, _≤_, _<_, max}
 use native.Mathlib.Nat.{mul-le-mul-right}
 use native.Mathlib.Omega.{arith}
 use mathlib.Core.Logic.{⊎-elim}
-use lib.Dec.{eqb, leb, ltb}
+use lib.Dec.{eqb}
 use lib.ListN.{length}
 use Rattle.std.specs.shelf.Lists.{All, sumBy}
 use Rattle.std.proofs.shelf.Elements.{all-weaker}
 use Rattle.std.proofs.shelf.Sums.{sumBy-cons, sumBy-le}
 use Rattle.std.proofs.shelf.Tests.{cases-order}
 use Rattle.std.proofs.shelf.Ways.{tells}
-use Rattle.costs.specs.Classes.{class-operations, class-written}
+use Rattle.costs.specs.Classes.{class-operations}
 use Rattle.costs.specs.Kinds.{Operations, composed}
 use Rattle.costs.specs.Plain.{CostOf, rota-cells, Sum, highest, Highest, minutes-in, HighestClass}
-use Rattle.costs.specs.Totals.{held, total-operations, total-written}
+use Rattle.costs.specs.Totals.{held, total-operations}
 use Rattle.costs.specs.Wide.{widened}
 use Rattle.costs.specs.Worsts.{worst-operations}
 use Rattle.costs.specs.Written.{cell-minutes}
 use Rattle.costs.specs.declared.values.Class.{Class}
 use Rattle.costs.specs.declared.values.Total.{Total}
 use Rattle.costs.specs.declared.values.Widened.{Widened}
-use Rattle.costs.specs.declared.values.Widened.the-variants.{Allowed, Forbidden}
 use Rattle.costs.specs.declared.values.Worst.{Worst}
 use Rattle.costs.proofs.Rows.{composed-forbidden, composed-allowed}
 

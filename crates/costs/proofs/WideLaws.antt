@@ -1,6 +1,6 @@
 -- The widened kind keeps the laws of the kind that it widens. Assumes nothing.
 use mathlib.Core.Path.{_≡_, refl, ap}
-use mathlib.Core.Bool.{Bool, true, false, true≢false, false≢true}
+use mathlib.Core.Bool.{true, false, true≢false, false≢true}
 use mathlib.Core.Logic.{_⊎_, inl, inr}
 use Rattle.costs.specs.Kinds.{Operations, Laws}
 use Rattle.costs.specs.Wide.{widened}

@@ -1,6 +1,6 @@
 -- Worst: the greater number of minutes counts. Assumes nothing.
-use mathlib.Core.Bool.{Bool, true, false, cond}
-use Prim.Native.Nat.{ℕ, _-_, _^_, min, max}
+use mathlib.Core.Bool.{cond}
+use Prim.Native.Nat.{_-_, _^_, min, max}
 use native.Mathlib.Omega.{arith}
 use lib.Dec.{leb, ltb}
 use Rattle.costs.specs.Bytes.{big-endian}

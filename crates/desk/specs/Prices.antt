@@ -1,6 +1,6 @@
 -- What a roster by hand costs: the chosen cells of the rest gauge, composed. Assumes nothing.
 use mathlib.Core.Path.{_≡_}
-use mathlib.Core.List.{List, [], _∷_, _++_}
+use mathlib.Core.List.{List, _++_}
 use Prim.Native.Nat.{ℕ, _≤_}
 use lib.Chars.{codes}
 use lib.ListN.{length, getD}

@@ -135,8 +135,6 @@ fn answer_weigh(
     let Some(kind) = read_kind(kind) else {
         return Err(WeighFault::NoKind);
     };
-    match weigh(heap, kind, size, cells, roster) {
-        Ok(price) => Ok(price_text(heap, price)?),
-        Err(why) => Err(why),
-    }
+    let price = weigh(heap, kind, size, cells, roster)?;
+    Ok(price_text(heap, price)?)
 }

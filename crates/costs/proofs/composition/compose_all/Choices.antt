@@ -1,6 +1,5 @@
 use mathlib.Core.Path.{_≡_}
-use Prim.Native.Nat.{_≤_}
-use lib.ListN.{length, take}
+use lib.ListN.{take}
 use Rattle.costs.specs.Kinds.{composed}
 use Rattle.costs.proofs.composition.compose_all.Given as given
 

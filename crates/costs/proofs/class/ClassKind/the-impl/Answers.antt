@@ -1,5 +1,3 @@
-use mathlib.Core.Bool.{true, false}
-use mathlib.Core.Path.{_≡_}
 use native.Mathlib.Omega.{arith}
 use Rattle.std.proofs.shelf.Ways.{tells}
 use Rattle.costs.proofs.Same.{same-class}
