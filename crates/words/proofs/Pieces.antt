@@ -13,7 +13,7 @@ use Rattle.std.specs.declared.vec.Vec.{Vec}
 use Rattle.std.proofs.shelf.Lists.{map-append, take-more}
 use Rattle.words.specs.declared.lists.Unlisted.{Unlisted}
 use Rattle.words.specs.declared.lists.Unlisted.the-variants.{NoItem, NoMemory}
-use Rattle.words.specs.Words.{CutAtCommas, Texts, NoText, PiecesRead, Listed}
+use Rattle.words.specs.Words.{CutAtCommas, Texts, NoText, SomeText, PiecesRead, Listed}
 
 -- one piece more, with its item
 texts-push : {X : Type 0} (Text : List ℕ → X → Type 0) (pieces : List (List ℕ)) (xs : List X) (p : List ℕ) (x : X) → Texts Text pieces xs → Text p x → Texts Text (pieces ++ (p ∷ [])) (xs ++ (x ∷ []))
@@ -50,8 +50,12 @@ module _ {X : Type 0} (Text : List ℕ → X → Type 0) (parts : List (RefT (Li
   pub text-of-none : ((x : X) → Text (getD parts i nowhere .now) x → ⊥) → NoText Text (behind parts)
   text-of-none none = (i, omega (arith, length-behind parts), λ x text. none x (subst (λ l. Text l x) (getD-behind parts i nowhere within) text))
 
+  -- the piece at i is the text of some
+  pub text-of-some : (x : X) → Text (getD parts i nowhere .now) x → SomeText Text (behind parts)
+  text-of-some x text = (i, omega (arith, length-behind parts), x, subst (λ l. Text l x) (sym (getD-behind parts i nowhere within)) text)
+
 -- a word cut at its commas, and what its pieces give
 pub listed : {X A : Type 0} (Text : List ℕ → X → Type 0) (word : List ℕ) (pieces : List (List ℕ)) (r : Result (Vec X A) Unlisted) → (word ≡ codes "." → ⊥) → CutAtCommas word pieces → PiecesRead Text pieces r → Listed Text word r
 listed Text word pieces (Ok v) items cut read = inr (pieces, cut, read)
 listed Text word pieces (Err NoItem) items cut read = (items, (pieces, cut, read))
-listed Text word pieces (Err NoMemory) items cut read = tt
+listed Text word pieces (Err NoMemory) items cut read = items

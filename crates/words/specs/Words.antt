@@ -94,11 +94,15 @@ Texts Text (p ∷ pieces) (x ∷ xs) = Text p x × Texts Text pieces xs
 abbrev pub NoText : {X : Type 0} → (List ℕ → X → Type 0) → List (List ℕ) → Type 0
 NoText {X} Text pieces = (k : ℕ) × (k < length pieces) × ((x : X) → Text (getD pieces k []) x → ⊥)
 
--- what is read from pieces: an item from each, or no list where some piece is no item's text
+-- some piece is an item's text
+abbrev pub SomeText : {X : Type 0} → (List ℕ → X → Type 0) → List (List ℕ) → Type 0
+SomeText {X} Text pieces = (k : ℕ) × (k < length pieces) × (x : X) × Text (getD pieces k []) x
+
+-- what is read from pieces: an item from each, or no list where some piece is no item's text; memory can be wanting only for an item that was read
 abbrev pub PiecesRead : {X A : Type 0} → (List ℕ → X → Type 0) → List (List ℕ) → Result (Vec X A) Unlisted → Type 0
 PiecesRead Text pieces (Ok v) = Texts Text pieces (vec-items v)
 PiecesRead Text pieces (Err NoItem) = NoText Text pieces
-PiecesRead Text pieces (Err NoMemory) = Unit {0}
+PiecesRead Text pieces (Err NoMemory) = SomeText Text pieces
 
 -- the items that a word lists: none by `.`, and otherwise those whose texts stand between its commas
 abbrev pub ListText : {X : Type 0} → (List ℕ → X → Type 0) → List ℕ → List X → Type 0
@@ -108,8 +112,13 @@ ListText Text word xs = ((word ≡ codes ".") × (xs ≡ [])) ⊎ ((pieces : Lis
 abbrev pub NoList : {X : Type 0} → (List ℕ → X → Type 0) → List ℕ → Type 0
 NoList Text word = (word ≡ codes "." → ⊥) × ((pieces : List (List ℕ)) × CutAtCommas word pieces × NoText Text pieces)
 
--- what is read from a word: the items that it lists, or none where it is no list; memory may be wanting
+-- what is read from a word: the items that it lists, or none where it is no list; memory may be wanting, but not for `.`
 abbrev pub Listed : {X A : Type 0} → (List ℕ → X → Type 0) → List ℕ → Result (Vec X A) Unlisted → Type 0
 Listed Text word (Ok v) = ListText Text word (vec-items v)
 Listed Text word (Err NoItem) = NoList Text word
-Listed Text word (Err NoMemory) = Unit {0}
+Listed Text word (Err NoMemory) = word ≡ codes "." → ⊥
+
+-- one error for a word that is no list, and another for want of memory
+abbrev pub error-for : {E : Type 0} → E → E → Unlisted → E
+error-for no-list no-memory NoItem = no-list
+error-for no-list no-memory NoMemory = no-memory

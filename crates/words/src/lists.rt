@@ -8,7 +8,7 @@ ghost use Rattle.std.specs.Pieces.{Lacks, rejoined};
 ghost use Rattle.std.specs.Places.{Every};
 ghost use Rattle.std.specs.Results.{Cases};
 ghost use Rattle.std.specs.Vec.{made};
-ghost use Rattle.words.specs.Words.{PiecesRead, ListText, NoList, Listed};
+ghost use Rattle.words.specs.Words.{PiecesRead, ListText, NoList, Listed, error-for};
 use crate::items::Item;
 use std::alloc::AllocError;
 use std::alloc::Global;
@@ -18,6 +18,17 @@ use std::alloc::Global;
 pub enum Unlisted {
     NoItem,
     NoMemory,
+}
+
+impl Unlisted {
+    fn error<E: Copy>(self, no_list: E, no_memory: E) -> E
+        ensures { λ r. ⌜ r ≡ error-for «no_list» «no_memory» self ⌝ }
+    {
+        match self {
+            Unlisted::NoItem => no_list,
+            Unlisted::NoMemory => no_memory,
+        }
+    }
 }
 
 fn pieces<'a>(heap: Global, word: &'a str) -> Result<Vec<&'a str>, AllocError>
@@ -68,7 +79,6 @@ pub fn list_or<T: Item, E: Copy>(
 {
     match read_list(heap, word) {
         Ok(list) => Ok(list),
-        Err(Unlisted::NoItem) => Err(no_list),
-        Err(Unlisted::NoMemory) => Err(no_memory),
+        Err(why) => Err(why.error(no_list, no_memory)),
     }
 }

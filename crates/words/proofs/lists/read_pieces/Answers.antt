@@ -2,11 +2,15 @@ use mathlib.Core.Path.{sym, subst}
 use lib.Seq.{take-all}
 use Rattle.std.specs.Of.Vec.{vec-items}
 use Rattle.words.specs.Words.{Texts}
-use Rattle.words.proofs.Pieces.{behind, texts-more, text-of-none}
+use Rattle.words.proofs.Pieces.{behind, texts-more, text-of-none, text-of-some}
 use Rattle.words.proofs.lists.read_pieces.Needs as need
 
 pub returns-in-rest : need.returns-in-rest
 returns-in-rest g c = text-of-none (g .T·Item .text) (c .args .parts .now) (c .loop-part .part-index) (c .loop-part-test .taken) (c .in-rest .ensures tt)
+
+pub returns-in-Err : need.returns-in-Err
+returns-in-Err g c =
+    text-of-some (g .T·Item .text) (c .args .parts .now) (c .loop-part .part-index) (c .loop-part-test .taken) (c .in-Some .item) (c .in-Some .ensures tt)
 
 pub loop-part-again : need.loop-part-again
 loop-part-again g c =
