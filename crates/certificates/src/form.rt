@@ -20,7 +20,7 @@ const VALUE_PLACE: usize = 32;
 
 // The size of a written cost: one byte and the body.
 pub fn cost_size<K: WrittenKind>() -> usize
-    ensures is { result ≡ cost_size written }
+    ensures is { result ≡ cost_size K.written }
     ensures short { result ≤ 17 }
 {
     1 + K::body_length()
@@ -28,7 +28,7 @@ pub fn cost_size<K: WrittenKind>() -> usize
 
 // The size of a step: two masks and a written cost.
 pub fn step_size<K: WrittenKind>() -> usize
-    ensures is { result ≡ step_size written }
+    ensures is { result ≡ step_size K.written }
     ensures short { result ≤ 25 }
 {
     8 + cost_size::<K>()
@@ -36,7 +36,7 @@ pub fn step_size<K: WrittenKind>() -> usize
 
 // The bytes behind the mark: edition, kind, rows, sections.
 pub fn head<K: WrittenKind>(size: Size) -> [u8; 4]
-    ensures { result ≡ head written size.n }
+    ensures { result ≡ head K.written size.n }
 {
     [EDITION, K::code_byte(), size.rows() as u8, SECTIONS]
 }
@@ -66,7 +66,7 @@ impl Section {
 impl Form {
     // Where a section begins.
     pub fn place<K: WrittenKind>(self, section: Section) -> usize
-        ensures is { result ≡ section_place written self.size.n section }
+        ensures is { result ≡ section_place K.written self.size.n section }
         ensures small { result ≤ 81 }
     {
         match section {
@@ -78,7 +78,7 @@ impl Form {
 
     // How many bytes a section has.
     pub fn length<K: WrittenKind>(self, section: Section) -> usize
-        ensures is { result ≡ section_size written self.size.n self.steps section }
+        ensures is { result ≡ section_size K.written self.size.n self.steps section }
         ensures small { result ≤ 25600 }
     {
         match section {
@@ -90,7 +90,7 @@ impl Form {
 
     // A section's pair, as it is written.
     pub fn pair<K: WrittenKind>(self, section: Section) -> [u8; 8]
-        ensures { result ≡ pair (section_place written self.size.n section) (section_size written self.size.n self.steps section) }
+        ensures { result ≡ pair (section_place K.written self.size.n section) (section_size K.written self.size.n self.steps section) }
     {
         pair(
             self.place::<K>(section) as u32,
@@ -101,7 +101,7 @@ impl Form {
 
 // How many steps have room behind the roster.
 fn steps_in<K: WrittenKind>(size: Size, bytes: &[u8]) -> usize
-    ensures { result ≡ steps_in written size.n bytes.now }
+    ensures { result ≡ steps_in K.written size.n bytes.now }
 {
     let place = VALUE_PLACE + cost_size::<K>() + size.rows();
     bytes.len().saturating_sub(place) / step_size::<K>()
@@ -125,7 +125,7 @@ fn pairs_fault<K: WrittenKind>(form: Form, bytes: &[u8]) -> Option<usize> {
 
 // The sizes of a certificate for a table, or the first rule that its form breaks.
 pub fn read_form<K: WrittenKind>(size: Size, bytes: &[u8]) -> Result<Form, Fault>
-    ensures { FormRead written size.n bytes.now result }
+    ensures { FormRead K.written size.n bytes.now result }
 {
     if bytes.len() < VALUE_PLACE || bytes[0..4] != MARK {
         return Err(Fault::Mark);

@@ -25,7 +25,7 @@ pub fn behind(bytes: &[u8], count: usize) -> &[u8]
 
 // The cost that is written at the front; none where the first byte is not 00.
 pub fn read_cost<K: WrittenKind>(bytes: &[u8]) -> Option<K>
-    ensures { MatchOption result (byte bytes.now 0 ≢ 0) (λ cost. written_cost written cost ≡ first_bytes (cost_size written) bytes.now) }
+    ensures { MatchOption result (byte bytes.now 0 ≢ 0) (λ cost. written_cost K.written cost ≡ first_bytes (cost_size K.written) bytes.now) }
 {
     if byte_at(bytes, 0) != 0 {
         return None;
@@ -35,7 +35,7 @@ pub fn read_cost<K: WrittenKind>(bytes: &[u8]) -> Option<K>
 
 // The step that is written at the front; none where the first byte of its amount is not 00.
 pub fn read_step<K: WrittenKind>(bytes: &[u8]) -> Option<Step<K>>
-    ensures { MatchOption result (byte bytes.now 8 ≢ 0) (λ step. Masks step × (step_bytes written step ≡ first_bytes (step_size written) bytes.now)) }
+    ensures { MatchOption result (byte bytes.now 8 ≢ 0) (λ step. Masks step × (step_bytes K.written step ≡ first_bytes (step_size K.written) bytes.now)) }
 {
     let Some(amount) = read_cost::<K>(behind(bytes, 8)) else {
         return None;
@@ -49,8 +49,8 @@ pub fn read_step<K: WrittenKind>(bytes: &[u8]) -> Option<Step<K>>
 
 // The first of `count` steps whose amount does not begin with 00.
 pub(crate) fn first_bad_step<K: WrittenKind>(bytes: &[u8], count: usize) -> Option<usize>
-    requires { length bytes.now ≡ count * step_size written }
-    ensures { MatchOption result ((steps : List (AStep K)) × StepsSaid written count bytes.now steps) (λ i. FirstBadStep written count bytes.now i) }
+    requires { length bytes.now ≡ count * step_size K.written }
+    ensures { MatchOption result ((steps : List (AStep K)) × StepsSaid K.written count bytes.now steps) (λ i. FirstBadStep K.written count bytes.now i) }
 {
     for i in 0..count {
         if read_step::<K>(behind(bytes, i * step_size::<K>())).is_none() {

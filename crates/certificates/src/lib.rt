@@ -1,4 +1,6 @@
 // Certificates of optimality as bytes: their form, their faults, reading and writing.
+#![tactic(auto)]
+
 pub mod faults;
 pub mod form;
 pub mod items;

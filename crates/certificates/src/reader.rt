@@ -56,7 +56,7 @@ fn item_of<'a, K: WrittenKind>(
     form: Form,
     section: Section,
 ) -> Result<Item<'a>, Fault>
-    requires { length held.now ≡ section_size written form.size.n form.steps section }
+    requires { length held.now ≡ section_size K.written form.size.n form.steps section }
 {
     let place = form.place::<K>(section);
     match section {
@@ -83,8 +83,8 @@ fn read_section<'a, K: WrittenKind>(
     form: Form,
     section: Section,
 ) -> Result<Item<'a>, Fault>
-    requires { limit ≡ min (length bytes.now) (section_place written form.size.n section + section_size written form.size.n form.steps section) }
-    ensures { ItemAnswer written form.size.n bytes.now form.steps section result }
+    requires { limit ≡ min (length bytes.now) (section_place K.written form.size.n section + section_size K.written form.size.n form.steps section) }
+    ensures { ItemAnswer K.written form.size.n bytes.now form.steps section result }
 {
     let place = form.place::<K>(section);
     match part(bytes, limit, place, form.length::<K>(section)) {
@@ -98,7 +98,7 @@ fn read_section<'a, K: WrittenKind>(
 impl<'a> Reader<'a> {
     // The reader of a certificate, or the first rule that its form breaks.
     pub fn open<K: WrittenKind>(size: Size, bytes: &'a [u8]) -> Result<Reader<'a>, Fault>
-        ensures form { MatchResult result (λ reader. Formed written size.n bytes.now reader.form) (λ fault. FormRead written size.n bytes.now (Err fault)) }
+        ensures form { MatchResult result (λ reader. Formed K.written size.n bytes.now reader.form) (λ fault. FormRead K.written size.n bytes.now (Err fault)) }
         ensures limit { IfOk result (λ reader. (reader.bytes.now ≡ bytes.now) × (reader.limit ≡ length bytes.now)) }
     {
         let form = read_form::<K>(size, bytes)?;
@@ -110,7 +110,7 @@ impl<'a> Reader<'a> {
     pub fn item<K: WrittenKind>(&mut self, section: Section) -> Result<Item<'a>, Fault>
         ensures limit { self.new.limit ≡ length self.old.bytes.now }
         ensures same { (self.new.bytes ≡ self.old.bytes) × (self.new.form ≡ self.old.form) }
-        ensures item { self.old.limit ≡ length self.old.bytes.now → ItemAnswer written self.old.form.size.n self.old.bytes.now self.old.form.steps section result }
+        ensures item { self.old.limit ≡ length self.old.bytes.now → ItemAnswer K.written self.old.form.size.n self.old.bytes.now self.old.form.steps section result }
     {
         let bytes = self.bytes;
         let form = self.form;

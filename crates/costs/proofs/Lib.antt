@@ -1,2 +1,4 @@
+pub mod BigEndian
+pub mod Fronts
 pub mod PlainCosts
 pub mod Rows

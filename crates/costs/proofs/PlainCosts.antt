@@ -1,5 +1,5 @@
 -- A row of cells costs, in whole numbers, the sum, the highest, or the highest class with its minutes. Assumes nothing.
-use Rattle.std.proofs.Common.{◌≡◌, ℕ, ◌+◌, ◌-◌, ◌<◌, ◌≤◌, max, cond, eqb, List, [], ◌∷◌, map, length, sum_by, sym, refl, ap, ◌∙◌, ⊎_elim, mul-le-mul_right, arith}
+use Rattle.std.proofs.Common.{◌≡◌, ℕ, ◌+◌, ◌<◌, ◌≤◌, max, cond, eqb, List, [], ◌∷◌, map, length, sum_by, sym, refl, ap, ◌∙◌, ⊎_elim, mul-le-mul_right, arith}
 use Rattle.std.specs.List.{AllByRecursion as All}
 use Rattle.std.proofs.ByRecursion.{All-weaker, sum_by_le}
 use Rattle.std.proofs.lemmas.List.Sums.{sum_by-cons}

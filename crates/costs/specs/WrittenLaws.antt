@@ -1,9 +1,14 @@
 -- A kind keeps the laws of writing once its bodies tell its costs apart, and every body is written. Assumes nothing.
-use Rattle.std.specs.Prelude.{◌≡◌, ℕ, ◌<◌, ◌≤◌, true, List}
-use Rattle.std.proofs.Common.{sym, ◌∙◌}
-use Rattle.costs.specs.Bytes.{Body}
+use Rattle.std.specs.Prelude.{◌≡◌, ℕ, zero, suc, ◌<◌, ◌≤◌, true, List, [], ◌∷◌, length, refl}
+use Rattle.std.proofs.Common.{sym, ap, ◌∙◌, arith}
+use Rattle.costs.specs.Bytes.{Body, first_bytes}
 use Rattle.costs.specs.Written.{Written, WrittenLaws}
-use Rattle.costs.specs.Fronts.{first_bytes_whole}
+
+pub first_bytes_whole : (k : ℕ) (bs : List ℕ) → length bs ≡ k → first_bytes k bs ≡ bs
+first_bytes_whole zero [] e = refl
+first_bytes_whole zero (b ∷ bs) e = absurd (omega arith)
+first_bytes_whole (suc k) [] e = absurd (omega arith)
+first_bytes_whole (suc k) (b ∷ bs) e = ap (λ l. b ∷ l) (first_bytes_whole k bs (omega arith))
 
 module _ {C : Type 0} (w : Written C) where
   pub faithful : w.code < 256 → w.body_size ≤ 16 → ((c : C) → Body w.body_size (w.body c)) → ((c d : C) → w.body c ≡ w.body d → c ≡ d) → ((bs : List ℕ) → Body w.body_size bs → (c : C) × (w.body c ≡ bs)) → ((m : ℕ) → m ≤ 120 → w.may_stand (w.shortage m) ≡ true) → WrittenLaws w

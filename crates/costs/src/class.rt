@@ -3,8 +3,7 @@ ghost use Rattle.costs.specs.Classes.{class_operations, class_written};
 ghost use Rattle.std.proofs.Common.{arith};
 ghost use Rattle.std.proofs.lemmas.Bool.Decides.{nat_tests};
 ghost use Rattle.costs.specs.Same.{same_class};
-ghost use Rattle.costs.specs.WrittenLaws;
-ghost use Rattle.costs.specs.ClassWrittenLemmas.{has_size, same, every};
+ghost use Rattle.costs.specs.ClassBodies.{class_faithful};
 
 use crate::bytes::{byte_at, number, put};
 use crate::kind::{CostKind, WrittenKind};
@@ -74,7 +73,7 @@ impl WrittenKind for Class {
 
     ghost written = { class_written };
 
-    ghost faithful = { WrittenLaws.faithful class_written (omega arith) (omega arith) has_size same every (λ m h. Prim.grind (arith, nat_tests)) };
+    ghost faithful = { class_faithful };
 
     fn code_byte() -> u8 {
         Self::CODE

@@ -7,7 +7,7 @@ use crate::kind::CostKind;
 use crate::values::{Class, Total, Widened, Worst};
 
 pub fn compose_all<K: CostKind>(costs: &[K]) -> K
-    ensures { result ≡ composed operations costs.now }
+    ensures { result ≡ composed K.operations costs.now }
 {
     let mut all = K::empty();
     for cost in costs {

@@ -43,7 +43,7 @@ pub fn rest_between(earlier: Duty, later: Duty) -> u32
 
 // The cost of the later duty after the earlier one.
 pub fn rest_cost<K: WrittenKind>(earlier: Duty, later: Duty) -> Widened<K>
-    ensures { result ≡ gauged written earlier later }
+    ensures { result ≡ gauged K.written earlier later }
 {
     let rest = rest_between(earlier, later);
     if rest < SHORTEST_REST {

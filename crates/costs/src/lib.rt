@@ -1,4 +1,6 @@
 // Cost kinds: the interface, three kinds, the widening by forbidden, rows of costs, and the rest gauge.
+#![tactic(auto)]
+
 pub mod bytes;
 pub mod class;
 pub mod composition;

@@ -1,10 +1,6 @@
 // Total: the sum of the minutes.
 ghost use Rattle.costs.specs.Totals.{total_operations, total_written};
-ghost use Rattle.std.specs.Prelude.{refl};
-ghost use Rattle.std.proofs.Common.{arith};
-ghost use Rattle.std.proofs.lemmas.Bool.Decides.{nat_tests};
-ghost use Rattle.costs.specs.NumberKinds.{number_laws, number_written};
-ghost use Rattle.costs.specs.Same.{same_total};
+ghost use Rattle.costs.specs.MinutesLaws.{total_laws, total_faithful};
 
 use crate::bytes::{number, put};
 use crate::kind::{CostKind, WrittenKind};
@@ -13,16 +9,7 @@ use crate::values::{CELL_MINUTES, Total};
 impl CostKind for Total {
     ghost operations = { total_operations };
 
-    ghost lawful = { number_laws (λ c. c.minutes) same_total total_operations (record {
-      compares = λ a b. refl;
-      empty_is = refl;
-      commutes = λ a b. omega arith;
-      associates = λ a b c. omega arith;
-      neutral = λ a. omega arith;
-      keeps = λ a b c h. omega arith;
-      completes = λ a b h. Prim.grind (arith, nat_tests);
-      otherwise = λ a b h. Prim.grind (arith, nat_tests);
-    }) };
+    ghost lawful = { total_laws };
 
     fn empty() -> Total {
         Total { minutes: 0 }
@@ -52,8 +39,7 @@ impl WrittenKind for Total {
 
     ghost written = { total_written };
 
-    ghost faithful = { number_written (λ c. c.minutes) same_total 8 1 _ _ (omega arith) (omega arith) (λ c. c.fits) (λ n h. record { minutes = n; fits = h }) (λ n h. refl)
-        (λ m h. Prim.grind (arith, nat_tests)) };
+    ghost faithful = { total_faithful };
 
     fn code_byte() -> u8 {
         Self::CODE

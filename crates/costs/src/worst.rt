@@ -1,10 +1,6 @@
 // Worst: the greater of the minutes.
 ghost use Rattle.costs.specs.Worsts.{worst_operations, worst_written};
-ghost use Rattle.std.specs.Prelude.{refl};
-ghost use Rattle.std.proofs.Common.{arith};
-ghost use Rattle.std.proofs.lemmas.Bool.Decides.{nat_tests};
-ghost use Rattle.costs.specs.NumberKinds.{number_laws, number_written};
-ghost use Rattle.costs.specs.Same.{same_worst};
+ghost use Rattle.costs.specs.MinutesLaws.{worst_laws, worst_faithful};
 
 use crate::bytes::{number, put};
 use crate::kind::{CostKind, WrittenKind};
@@ -13,16 +9,7 @@ use crate::values::{CELL_MINUTES, Worst};
 impl CostKind for Worst {
     ghost operations = { worst_operations };
 
-    ghost lawful = { number_laws (λ c. c.minutes) same_worst worst_operations (record {
-      compares = λ a b. refl;
-      empty_is = refl;
-      commutes = λ a b. omega arith;
-      associates = λ a b c. omega arith;
-      neutral = λ a. omega arith;
-      keeps = λ a b c h. omega arith;
-      completes = λ a b h. Prim.grind (arith, nat_tests);
-      otherwise = λ a b h. Prim.grind (arith, nat_tests);
-    }) };
+    ghost lawful = { worst_laws };
 
     fn empty() -> Worst {
         Worst { minutes: 0 }
@@ -54,8 +41,7 @@ impl WrittenKind for Worst {
 
     ghost written = { worst_written };
 
-    ghost faithful = { number_written (λ c. c.minutes) same_worst 4 2 _ _ (omega arith) (omega arith) (λ c. c.fits) (λ n h. record { minutes = n; fits = h }) (λ n h. refl)
-        (λ m h. Prim.grind (arith, nat_tests)) };
+    ghost faithful = { worst_faithful };
 
     fn code_byte() -> u8 {
         Self::CODE

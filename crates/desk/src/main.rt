@@ -1,4 +1,6 @@
 // The desk: one request a line on standard input, one answer a line on standard output.
+#![tactic(auto)]
+
 mod answers;
 mod faults;
 mod lines;

@@ -40,7 +40,7 @@ fn weigh_table<K: CostKind>(
     roster: &[u8],
 ) -> Result<Widened<K>, Unweighed>
     ensures kept { cells.new ≡ cells.old }
-    ensures answer { TableWeighed operations (λ cells cost. cost ≡ composed (widened operations) cells) size.n cells.entry.now roster.now result }
+    ensures answer { TableWeighed K.operations (λ cells cost. cost ≡ composed (widened K.operations) cells) size.n cells.old roster.now result }
 {
     let n = size.rows();
     if cells.len() != n * n {
@@ -60,7 +60,7 @@ fn weigh_words<K: CostKind + Item>(
     cells: &str,
     roster: &str,
 ) -> Result<Widened<K>, WeighFault>
-    ensures { WordsWeighed operations text (λ cells cost. cost ≡ composed (widened operations) cells) (record { size_word = size.now; cells_word = cells.entry.now; roster_word = roster.now }) result }
+    ensures { WordsWeighed K.operations K.text (λ cells cost. cost ≡ composed (widened K.operations) cells) (record { size_word = size.now; cells_word = cells.now; roster_word = roster.now }) result }
 {
     let Some(size) = read_size(size) else {
         return Err(WeighFault::NoSize);

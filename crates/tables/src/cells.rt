@@ -10,7 +10,7 @@ use costs::kind::CostKind;
 
 // The cell in a row and a column, by its place; empty where the slice is too short.
 pub fn cell_at<C: CostKind>(cells: &[C], size: Size, row: usize, column: usize) -> C
-    ensures { result ≡ grid operations size.n cells.now row column }
+    ensures { result ≡ grid C.operations size.n cells.now row column }
 {
     let at = row.saturating_mul(size.rows()).saturating_add(column);
     if at < cells.len() {
@@ -22,7 +22,7 @@ pub fn cell_at<C: CostKind>(cells: &[C], size: Size, row: usize, column: usize) 
 
 // What a roster's cells come to.
 pub fn roster_cost<C: CostKind>(cells: &[C], size: Size, roster: &[u8]) -> C
-    ensures { result ≡ roster_cost operations (grid operations size.n cells.now) roster.now }
+    ensures { result ≡ roster_cost C.operations (grid C.operations size.n cells.now) roster.now }
 {
     let mut cost = C::empty();
     for (row, column) in roster.iter().enumerate() {
@@ -33,7 +33,7 @@ pub fn roster_cost<C: CostKind>(cells: &[C], size: Size, roster: &[u8]) -> C
 
 // What a step makes of the cell at a place.
 fn changed_cell<C: CostKind>(step: Step<C>, size: Size, place: usize, cell: C) -> C
-    ensures { result ≡ changed operations step.amount (in_set step.rows (place / size.n)) (in_set step.columns (place % size.n)) cell }
+    ensures { result ≡ changed C.operations step.amount (in_set step.rows (place / size.n)) (in_set step.columns (place % size.n)) cell }
 {
     let row = place / size.rows();
     let column = place % size.rows();
@@ -46,7 +46,7 @@ fn changed_cell<C: CostKind>(step: Step<C>, size: Size, place: usize, cell: C) -
 
 // Makes a step. Cells in surplus stay.
 pub fn apply_step<C: CostKind>(cells: &mut [C], size: Size, step: Step<C>)
-    ensures { cells.new ≡ stepped operations size.n step cells.old }
+    ensures { cells.new ≡ stepped C.operations size.n step cells.old }
 {
     let n = size.rows();
     for place in 0..(n * n).min(cells.len()) {
@@ -61,7 +61,7 @@ fn with_cell<C: CostKind>(
     least: Option<Least<C>>,
     cell: Least<C>,
 ) -> Option<Least<C>>
-    ensures { result ≡ with_cell operations rows columns least cell }
+    ensures { result ≡ with_cell C.operations rows columns least cell }
 {
     if !in_set(rows, cell.row) || !in_set(columns, cell.column) {
         return least;
@@ -81,7 +81,7 @@ fn with_cell<C: CostKind>(
 // The least cell in a set of rows and a set of columns, with its row and column; none where no cell lies in both.
 // Columns are gone through one by one, so that of equal cells the lowest column comes first, and in it the lowest row.
 pub fn least_cell<C: CostKind>(cells: &[C], size: Size, rows: u32, columns: u32) -> Option<Least<C>>
-    ensures { MatchOption result (NoneInside size.n rows columns) (λ least. LeastInside operations size.n (grid operations size.n cells.now) rows columns least) }
+    ensures { MatchOption result (NoneInside size.n rows columns) (λ least. LeastInside C.operations size.n (grid C.operations size.n cells.now) rows columns least) }
 {
     let n = size.rows();
     let mut least = None;
@@ -107,7 +107,7 @@ pub fn at_most_inside<C: CostKind>(
     rows: u32,
     columns: u32,
 ) -> bool
-    ensures { Decides result (AtMostInside operations size.n (grid operations size.n cells.now) rows columns amount) }
+    ensures { Decides result (AtMostInside C.operations size.n (grid C.operations size.n cells.now) rows columns amount) }
 {
     match least_cell(cells, size, rows, columns) {
         Some(least) => amount.at_most(least.amount),
@@ -122,7 +122,7 @@ pub fn first_not_absorbed<C: CostKind>(
     size: Size,
     roster: &[u8],
 ) -> Option<usize>
-    ensures { MatchOption result (AllAbsorbed operations (grid operations size.n cells.now) z roster.now) (λ row. FirstNotAbsorbed operations (grid operations size.n cells.now) z roster.now row) }
+    ensures { MatchOption result (AllAbsorbed C.operations (grid C.operations size.n cells.now) z roster.now) (λ row. FirstNotAbsorbed C.operations (grid C.operations size.n cells.now) z roster.now row) }
 {
     for (row, column) in roster.iter().enumerate() {
         if !absorbs(z, cell_at(cells, size, row, *column as usize)) {

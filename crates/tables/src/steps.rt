@@ -37,7 +37,7 @@ impl<C> Step<C> {
 
 // A cost composed so many times.
 pub fn compose_times<K: CostKind>(cost: K, count: usize) -> K
-    ensures { result ≡ times operations count cost }
+    ensures { result ≡ times K.operations count cost }
 {
     let mut all = K::empty();
     for _ in 0..count {
@@ -49,7 +49,7 @@ pub fn compose_times<K: CostKind>(cost: K, count: usize) -> K
 impl<K: CostKind> Step<K> {
     // What the step takes off every roster: its amount, as often as its excess says.
     pub fn taken(&self, size: Size) -> K
-        ensures { result ≡ taken operations size.n self.now }
+        ensures { result ≡ taken K.operations size.n self.now }
     {
         compose_times(self.amount, self.excess(size))
     }
@@ -68,7 +68,7 @@ impl<K: CostKind> Step<K> {
 
 // What the steps take off every roster, one after the other.
 pub fn value<K: CostKind>(steps: &[Step<K>], size: Size) -> K
-    ensures { result ≡ value operations size.n steps.now }
+    ensures { result ≡ value K.operations size.n steps.now }
 {
     let mut z = K::empty();
     for step in steps {
@@ -79,14 +79,14 @@ pub fn value<K: CostKind>(steps: &[Step<K>], size: Size) -> K
 
 // Whether `z` with the cell is at most `z`.
 fn adds_nothing<C: CostKind>(z: C, cell: C) -> bool
-    ensures { result ≡ operations.at_most (operations.compose z cell) z }
+    ensures { result ≡ C.operations.at_most (C.operations.compose z cell) z }
 {
     z.compose(cell).at_most(z)
 }
 
 // Whether the cell is absorbed by the value `z`. No cell lowers a value, so one comparison decides it.
 pub fn absorbs<C: CostKind>(z: C, cell: C) -> bool
-    ensures { Decides result (Absorbed operations z cell) }
+    ensures { Decides result (Absorbed C.operations z cell) }
 {
     adds_nothing(z, cell)
 }

@@ -22,21 +22,21 @@ pub struct Table<'a, K> {
 impl<'a, K: CostKind> Table<'a, K> {
     // What a roster costs.
     pub fn cost(&self, roster: &[u8]) -> Widened<K>
-        ensures { result ≡ cost_in operations (side self.now) (cells_of self.now) roster.now }
+        ensures { result ≡ cost_in K.operations (side self.now) (cells_of self.now) roster.now }
     {
         roster_cost(self.cells, self.size, roster)
     }
 
     // The least cell in a set of rows and a set of columns, with its row and column.
     pub fn least(&self, rows: u32, columns: u32) -> Option<Least<Widened<K>>>
-        ensures { MatchOption result (NoneInside (side self.now) rows columns) (λ least. LeastInside (widened operations) (side self.now) (at operations self.now) rows columns least) }
+        ensures { MatchOption result (NoneInside (side self.now) rows columns) (λ least. LeastInside (widened K.operations) (side self.now) (at K.operations self.now) rows columns least) }
     {
         least_cell(self.cells, self.size, rows, columns)
     }
 
     // Whether the step's amount is at most every cell in both its sets.
     pub fn amount_fits(&self, step: Step<K>) -> bool
-        ensures { Decides result (AtMostInside (widened operations) (side self.now) (at operations self.now) step.rows step.columns (Allowed step.amount)) }
+        ensures { Decides result (AtMostInside (widened K.operations) (side self.now) (at K.operations self.now) step.rows step.columns (Allowed step.amount)) }
     {
         let amount = Widened::Allowed(step.amount);
         at_most_inside(amount, self.cells, self.size, step.rows, step.columns)
@@ -45,8 +45,8 @@ impl<'a, K: CostKind> Table<'a, K> {
     // The first row of a roster whose cell is not absorbed by the value `z`.
     // Where there is none, the roster is cheapest in every table from which steps of value `z` lead to this one.
     pub fn first_not_absorbed(&self, z: K, roster: &[u8]) -> Option<usize>
-        ensures row { MatchOption result (AllAbsorbed (widened operations) (at operations self.now) (Allowed z) roster.now) (λ row. FirstNotAbsorbed (widened operations) (at operations self.now) (Allowed z) roster.now row) }
-        ensures cheapest { IfNone result (SettledWhereReached operations (side self.now) (cells_of self.now) z roster.now) }
+        ensures row { MatchOption result (AllAbsorbed (widened K.operations) (at K.operations self.now) (Allowed z) roster.now) (λ row. FirstNotAbsorbed (widened K.operations) (at K.operations self.now) (Allowed z) roster.now row) }
+        ensures cheapest { IfNone result (SettledWhereReached K.operations (side self.now) (cells_of self.now) z roster.now) }
     {
         first_not_absorbed(Widened::Allowed(z), self.cells, self.size, roster)
     }
@@ -55,9 +55,9 @@ impl<'a, K: CostKind> Table<'a, K> {
     pub fn apply(&mut self, step: Step<K>)
         ensures lent { self.new.cells.ghost_name ≡ self.old.cells.ghost_name }
         ensures size { self.new.size ≡ self.old.size }
-        ensures cells { cells_of self.new ≡ stepped (widened operations) (side self.old) (wide step) (cells_of self.old) }
-        ensures made { StepMade operations (side self.old) (cells_of self.old) step (cells_of self.new) }
-        ensures rosters { StepLowers operations (side self.old) (cells_of self.old) step (cells_of self.new) }
+        ensures cells { cells_of self.new ≡ stepped (widened K.operations) (side self.old) (wide step) (cells_of self.old) }
+        ensures made { StepMade K.operations (side self.old) (cells_of self.old) step (cells_of self.new) }
+        ensures rosters { StepLowers K.operations (side self.old) (cells_of self.old) step (cells_of self.new) }
         ensures forbidden { map is_forbidden (cells_of self.new) ≡ map is_forbidden (cells_of self.old) }
     {
         let size = self.size;
@@ -68,8 +68,8 @@ impl<'a, K: CostKind> Table<'a, K> {
     pub fn apply_all(&mut self, steps: &[Step<K>])
         ensures lent { self.new.cells.ghost_name ≡ self.old.cells.ghost_name }
         ensures size { self.new.size ≡ self.old.size }
-        ensures cells { cells_of self.new ≡ stepped_all (widened operations) (side self.old) (map wide steps.now) (cells_of self.old) }
-        ensures rosters { StepsLower operations (side self.old) (cells_of self.old) steps.now (cells_of self.new) }
+        ensures cells { cells_of self.new ≡ stepped_all (widened K.operations) (side self.old) (map wide steps.now) (cells_of self.old) }
+        ensures rosters { StepsLower K.operations (side self.old) (cells_of self.old) steps.now (cells_of self.new) }
         ensures forbidden { map is_forbidden (cells_of self.new) ≡ map is_forbidden (cells_of self.old) }
     {
         for step in steps {

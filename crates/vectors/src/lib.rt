@@ -1,4 +1,6 @@
 // Worked examples that are run: each compares what the code answers with a number written by hand.
+#![tactic(auto)]
+
 #[cfg(test)]
 mod tests {
     use costs::gauge::rest_cost;

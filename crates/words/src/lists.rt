@@ -34,7 +34,7 @@ fn pieces<'a>(heap: Global, word: &'a str) -> Result<Vec<&'a str>, AllocError>
 }
 
 fn read_pieces<T: Item>(heap: Global, parts: &[&str]) -> Result<Vec<T>, Unlisted>
-    ensures { PiecesRead text (map (λ x. x.now) parts.now) result }
+    ensures { PiecesRead T.text (map (λ x. x.now) parts.now) result }
 {
     let mut list = Vec::new(heap);
     for part in parts {
@@ -51,7 +51,7 @@ fn read_pieces<T: Item>(heap: Global, parts: &[&str]) -> Result<Vec<T>, Unlisted
 
 // `ITEM,ITEM,..`, or `.` for none.
 pub fn read_list<T: Item>(heap: Global, word: &str) -> Result<Vec<T>, Unlisted>
-    ensures { Listed text word.now result }
+    ensures { Listed T.text word.now result }
 {
     if word == "." {
         return Ok(Vec::new(heap));
@@ -69,7 +69,7 @@ pub fn list_or<T: Item, E: Copy>(
     no_list: E,
     no_memory: E,
 ) -> Result<Vec<T>, E>
-    ensures { MatchResult result (λ v. ListText text word.now v.items) (λ e. ((e ≡ no_list) × NoList text word.now) ⊎ (e ≡ no_memory)) }
+    ensures { MatchResult result (λ v. ListText T.text word.now v.items) (λ e. ((e ≡ no_list) × NoList T.text word.now) ⊎ (e ≡ no_memory)) }
 {
     match read_list(heap, word) {
         Ok(list) => Ok(list),

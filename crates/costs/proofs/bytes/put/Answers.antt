@@ -1,6 +1,6 @@
 use Rattle.std.proofs.Common.{get_or, set, ap, ◌∙◌, arith, take_all}
 use Rattle.costs.specs.Bytes.{over}
-use Rattle.costs.specs.Fronts.{over_more, over_no_more}
+use Rattle.costs.proofs.Fronts.{over_more, over_no_more}
 use Rattle.costs.proofs.bytes.put.Goals as goal
 use Rattle.costs.proofs.bytes.put.Goals.{then-i-out, else-i-out}
 

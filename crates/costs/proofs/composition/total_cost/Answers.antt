@@ -3,4 +3,4 @@ use Rattle.costs.proofs.PlainCosts.{cost_of, total_means}
 use Rattle.costs.proofs.composition.total_cost.Goals as goal
 
 pub returns : goal.returns
-returns c = cost_of total_operations _ total_means _ _ c.compose-all.ensures
+returns c = cost_of total_operations _ total_means _ _ c.compose_all.ensures

@@ -14,8 +14,8 @@ asked_price words = record { kind_word = word words 1; earlier_word = word words
 abbrev asked_weigh : List (Bor (List ℕ)) → TableWords
 asked_weigh words = record { size_word = word words 2; cells_word = word words 3; roster_word = word words 4 }
 
-pub returns-then-is-empty : goal.returns-then-is-empty
-returns-then-is-empty c = no_words c.args.words.now (grind arith)
+pub returns-then-is_empty : goal.returns-then-is_empty
+returns-then-is_empty c = no_words c.args.words.now (grind arith)
 
 pub returns-then-words-ne5 : goal.returns-then-words-ne5
 returns-then-words-ne5 c = not_five_of c.args.words.now (codes "price") (c.eq.ensures.0 c.if-eq.true) (grind arith) c.if-words-ne5.true
@@ -33,15 +33,15 @@ returns-in-Err c =
 pub returns-then-words-ne5-2 : goal.returns-then-words-ne5-2
 returns-then-words-ne5-2 c = not_five_of c.args.words.now (codes "weigh") (c.eq-2.ensures.0 c.if-eq-2.true) (grind arith) c.if-words-ne5-2.true
 
-pub returns-in-Ok-answer-weigh : goal.returns-in-Ok-answer-weigh
-returns-in-Ok-answer-weigh c =
+pub returns-in-Ok-answer_weigh : goal.returns-in-Ok-answer_weigh
+returns-in-Ok-answer_weigh c =
     let words = c.args.words.now in
-    inr (word words 1, asked_weigh words, five_of words (codes "weigh") (c.eq-2.ensures.0 c.if-eq-2.true) c.if-words-ne5-2.false, c.in-Ok-answer-weigh.ensures)
+    inr (word words 1, asked_weigh words, five_of words (codes "weigh") (c.eq-2.ensures.0 c.if-eq-2.true) c.if-words-ne5-2.false, c.in-Ok-answer_weigh.ensures)
 
-pub returns-in-Err-answer-weigh : goal.returns-in-Err-answer-weigh
-returns-in-Err-answer-weigh c =
+pub returns-in-Err-answer_weigh : goal.returns-in-Err-answer_weigh
+returns-in-Err-answer_weigh c =
     let words = c.args.words.now in
-    (word words 1, asked_weigh words, five_of words (codes "weigh") (c.eq-2.ensures.0 c.if-eq-2.true) c.if-words-ne5-2.false, c.in-Err-answer-weigh.ensures)
+    (word words 1, asked_weigh words, five_of words (codes "weigh") (c.eq-2.ensures.0 c.if-eq-2.true) c.if-words-ne5-2.false, c.in-Err-answer_weigh.ensures)
 
 pub returns : goal.returns
 returns c =

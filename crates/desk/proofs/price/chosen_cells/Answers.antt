@@ -17,7 +17,7 @@ loop-i-preserved g c =
     let t = gauged_grid g.K.WrittenKind.written c.args.earlier.now c.args.later.now in
     let roster = c.args.roster.now in
     let i = c.loop-i.i in
-    pushed (c.rest-cost.result ∷ []) c.loop-i.invariant c.in-ok-push.was c.push.ensures.items ∙ ap (λ x. chosen t (take i roster) ++ (x ∷ [])) c.rest-cost.ensures ∙ sym (chosen_more t roster i (omega (arith, c.requires.rows, c.loop-i-test.true)))
+    pushed (c.rest_cost.result ∷ []) c.loop-i.invariant c.in_ok-push.was c.push.ensures.items ∙ ap (λ x. chosen t (take i roster) ++ (x ∷ [])) c.rest_cost.ensures ∙ sym (chosen_more t roster i (omega (arith, c.requires.rows, c.loop-i-test.true)))
 
 pub returns : goal.returns
 returns g c =

@@ -14,9 +14,9 @@ loop-place-preserved g c =
     let p = c.loop-place.place in
     let b = c.index-cells-place.result in
     let whole : c.rows-n.result * c.rows-n.result ≡ n * n = ap (λ m. m * m) c.rows-n.ensures in
-    partway_visit o n c.args.step c.args.cells.now (λ k. ltb k p) _ c.loop-place.cells p b c.changed-cell.result
+    partway_visit o n c.args.step c.args.cells.now (λ k. ltb k p) _ c.loop-place.cells p b c.changed_cell.result
     c.loop-place.invariant (omega (arith, c.loop-place-test.true, c.min-place-end.ensures)) (le-ltb p p (omega arith)) (lt-ltb p _ (omega arith)) (λ k other. grind (arith, nat_tests)) c.index-cells-place.is
-    (c.changed-cell.ensures ∙ sym (changed_there o n c.args.step p b (omega (arith, whole, c.loop-place-test.true, c.min-place-end.ensures))))
+    (c.changed_cell.ensures ∙ sym (changed_there o n c.args.step p b (omega (arith, whole, c.loop-place-test.true, c.min-place-end.ensures))))
 
 pub returns : goal.returns
 returns g c =

@@ -12,7 +12,7 @@ returns-then-not-absorbs g c =
     record {
       row_there = c.loop-row-test.true;
       absorbed_before = c.loop-row.invariant;
-      not_absorbed = subst (λ b. Absorbed o z b → ⊥) c.cell-at.ensures (not_from_Decides c.absorbs.result c.absorbs.ensures c.if-not-absorbs.true);
+      not_absorbed = subst (λ b. Absorbed o z b → ⊥) c.cell_at.ensures (not_from_Decides c.absorbs.result c.absorbs.ensures c.if-not-absorbs.true);
     }
 
 pub loop-row-preserved : goal.loop-row-preserved
@@ -20,7 +20,7 @@ loop-row-preserved g c =
     let o = g.C.CostKind.operations in
     let z = c.args.z in
     chosen_all_more (grid o c.args.size.n c.args.cells.now) (Absorbed o z) c.args.roster.now c.loop-row.row c.loop-row-test.true c.loop-row.invariant
-    (subst (Absorbed o z) c.cell-at.ensures (c.absorbs.ensures.0 c.if-not-absorbs.false))
+    (subst (Absorbed o z) c.cell_at.ensures (c.absorbs.ensures.0 c.if-not-absorbs.false))
 
 pub returns : goal.returns
 returns g c =

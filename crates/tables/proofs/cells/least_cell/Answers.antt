@@ -16,7 +16,7 @@ loop-place-preserved g c =
     let rows = c.args.rows in
     let columns = c.args.columns in
     subst (Sofar o n t rows columns _)
-    (sym (c.with-cell-least.ensures ∙ ap (λ a. with_cell o rows columns c.loop-place.least (record { amount = a; row = p % n; column = p / n })) c.cell-at-amount.ensures))
+    (sym (c.with_cell-least.ensures ∙ ap (λ a. with_cell o rows columns c.loop-place.least (record { amount = a; row = p % n; column = p / n })) c.cell_at-amount.ensures))
     (sofar_more g.met.C.CostKind.lawful n t rows columns p c.loop-place-test.true c.loop-place.least c.loop-place.invariant)
 
 pub returns : goal.returns

@@ -7,8 +7,8 @@ use Rattle.tables.proofs.steps.members.Goals.{Start}
 at_most_32 : (c : Start) → ones c.args.mask ≤ 32
 at_most_32 c = ones-le 32 c.args.mask c.ranges.mask.fits
 
-pub overflow-cast-result : goal.overflow-cast-result
-overflow-cast-result c = record { fits = omega (arith, at_most_32 c) }
+pub overflow_cast-result : goal.overflow_cast-result
+overflow_cast-result c = record { fits = omega (arith, at_most_32 c) }
 
 pub returns : goal.returns
 returns c = record { count = refl; few = at_most_32 c }

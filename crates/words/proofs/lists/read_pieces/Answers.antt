@@ -3,8 +3,8 @@ use Rattle.words.specs.Words.{Texts}
 use Rattle.words.proofs.Pieces.{behind, texts_more, text_of_none, text_of_some}
 use Rattle.words.proofs.lists.read_pieces.Goals as goal
 
-pub returns-in-default : goal.returns-in-default
-returns-in-default g c = text_of_none g.T-as-Item.text c.args.parts.now c.loop-part.part-index c.loop-part-test.true c.in-default.ensures
+pub returns-in_default : goal.returns-in_default
+returns-in_default g c = text_of_none g.T-as-Item.text c.args.parts.now c.loop-part.part-index c.loop-part-test.true c.in_default.ensures
 
 pub returns-in-Err : goal.returns-in-Err
 returns-in-Err g c =

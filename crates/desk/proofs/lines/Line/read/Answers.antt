@@ -18,6 +18,6 @@ loop-preserved g c =
       | else-fits w ↦ λ e. full_line (vec_len old) room told.room (c.loop.invariant.1 w.if-fits.false)
     ]
     in (
-      kept_lacks (vec_items old) (vec_items new) c.in-Some.byte room told.items c.loop.invariant.0 c.if-byte-eq-LINE-END.false,
+      kept_lacks (vec_items old) (vec_items new) c.in-Some.byte room told.items c.loop.invariant.0 c.if-byte-eq-LINE_END.false,
       λ e. new.ok.0 ∙ not_kept (vec_items old) (vec_items new) c.in-Some.byte room told.items (none e) ∙ sym old.ok.0 ∙ no_room (vec_len old) room told.room c.loop.self.few (none e),
     )

@@ -12,7 +12,7 @@ returns g c =
     let n = side c.args.self.now in
     let before = cells_of c.args.self.now in
     let step = c.args.step in
-    let after = c.apply-step.ensures ∙ ap (λ s. stepped (widened o) n s before) c.widened.ensures in
+    let after = c.apply_step.ensures ∙ ap (λ s. stepped (widened o) n s before) c.widened.ensures in
     record {
       lent = refl;
       size = refl;

@@ -4,6 +4,6 @@ use Rattle.tables.proofs.table.Table.first_not_absorbed.Goals as goal
 
 pub returns : goal.returns
 returns g c = record {
-  row = c.first-not-absorbed.ensures;
-  cheapest = none_settled g.met.K.CostKind.lawful (side c.args.self.now) (cells_of c.args.self.now) c.args.z c.args.roster.now c.first-not-absorbed.result c.first-not-absorbed.ensures;
+  row = c.first_not_absorbed.ensures;
+  cheapest = none_settled g.met.K.CostKind.lawful (side c.args.self.now) (cells_of c.args.self.now) c.args.z c.args.roster.now c.first_not_absorbed.result c.first_not_absorbed.ensures;
 }

@@ -28,12 +28,6 @@ over_more bs out i h room = over_put (take i bs) out i (slice_index bs i) (sym (
 pub over_no_more : (bs out : List ℕ) (i : ℕ) → i < length bs → length out ≤ i → over (take i bs) out ≡ over (take (i + 1) bs) out
 over_no_more bs out i h full = over_full (take i bs) out (slice_index bs i) (omega (arith, length-take-le i bs (omega arith))) ∙ ap (λ l. over l out) (sym (take_more bs i 0 h))
 
-pub first_bytes_whole : (k : ℕ) (bs : List ℕ) → length bs ≡ k → first_bytes k bs ≡ bs
-first_bytes_whole zero [] e = refl
-first_bytes_whole zero (b ∷ bs) e = absurd (omega arith)
-first_bytes_whole (suc k) [] e = absurd (omega arith)
-first_bytes_whole (suc k) (b ∷ bs) e = ap (λ l. b ∷ l) (first_bytes_whole k bs (omega arith))
-
 pub first_bytes_push : (k : ℕ) (bs : List ℕ) → first_bytes (suc k) bs ≡ first_bytes k bs ++ (slice_index bs k ∷ [])
 first_bytes_push zero [] = refl
 first_bytes_push zero (b ∷ bs) = refl
