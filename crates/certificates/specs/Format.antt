@@ -1,6 +1,6 @@
 -- How a certificate is laid out in bytes. Assumes nothing.
 use Rattle.std.specs.Prelude.{◌≡◌, ℕ, suc, ◌+◌, ◌-◌, ◌*◌, ◌/◌, ◌^◌, ◌<◌, ◌≤◌, List, [], ◌∷◌, ◌++◌, length}
-use Rattle.std.specs.List.{flat_map, AllByRecursion as All}
+use Rattle.std.specs.List.{flat_map, AllByRecursion}
 use Rattle.costs.specs.Bytes.{big_endian}
 use Rattle.costs.specs.Written.{Written}
 use Rattle.tables.specs.Rosters.{Roster}
@@ -69,7 +69,7 @@ module _ {C : Type 0} (w : Written C) where
 pub record Writable {C : Type 0} (n : ℕ) (c : Certificate C) : Type 0 where
   pub is_roster : Roster n c.roster
   pub few_steps : length c.steps ≤ n * n
-  pub masks : All (λ s. (s.rows < 2 ^ 32) × (s.columns < 2 ^ 32)) c.steps
+  pub masks : AllByRecursion (λ s. (s.rows < 2 ^ 32) × (s.columns < 2 ^ 32)) c.steps
 
 -- these bytes are a certificate that says c
 pub record Writes {C : Type 0} (w : Written C) (n : ℕ) (bytes : List ℕ) (c : Certificate C) : Type 0 where

@@ -1,6 +1,6 @@
 -- Which bytes are a certificate's, and where those that are not go wrong. Assumes nothing.
 use Rattle.std.specs.Prelude.{◌≡◌, ℕ, ◌+◌, ◌-◌, ◌*◌, ◌/◌, ◌^◌, ◌<◌, ◌≤◌, ◌⊎◌, List, [], ◌∷◌, ◌++◌, length, take, drop, Ok, Err, Result, MatchResult, ◌≢◌, slice_index}
-use Rattle.std.specs.List.{flat_map, ContainsAt as Has, AllByRecursion as All}
+use Rattle.std.specs.List.{flat_map, ContainsAt as Has, AllByRecursion}
 use Rattle.costs.specs.Written.{Written}
 use Rattle.tables.specs.Rosters.{Roster as IsRoster}
 use Rattle.tables.specs.declared.values.Step.{Step}
@@ -84,7 +84,7 @@ Masks s = (s.rows < 2 ^ 32) × (s.columns < 2 ^ 32)
 pub record StepsSaid {C : Type 0} (w : Written C) (q : ℕ) (bytes : List ℕ) (steps : List (Step C)) : Type 0 where
   pub count : length steps ≡ q
   pub bytes_are : flat_map (step_bytes w) steps ≡ bytes
-  pub masks : All Masks steps
+  pub masks : AllByRecursion Masks steps
 
 -- step i is the first in these bytes whose amount does not begin with 00
 pub record FirstBadStep {C : Type 0} (w : Written C) (q : ℕ) (bytes : List ℕ) (i : ℕ) : Type 0 where

@@ -1,6 +1,6 @@
 -- A row of cells costs, in whole numbers, the sum, the highest, or the highest class with its minutes. Assumes nothing.
 use Rattle.std.proofs.Common.{◌≡◌, ℕ, ◌+◌, ◌<◌, ◌≤◌, max, cond, eqb, List, [], ◌∷◌, map, length, sum_by, sym, refl, ap, ◌∙◌, ⊎_elim, mul-le-mul_right, arith}
-use Rattle.std.specs.List.{AllByRecursion as All}
+use Rattle.std.specs.List.{AllByRecursion}
 use Rattle.std.proofs.ByRecursion.{All-weaker, sum_by_le}
 use Rattle.std.proofs.lemmas.List.Sums.{sum_by-cons}
 use Rattle.std.proofs.lemmas.Bool.{cases_order}
@@ -26,7 +26,7 @@ cost_of o Means means cells r e = record {
 }
 
 -- no sum of a rota's cells is held
-plain : {X : Type 0} (f : X → ℕ) (xs : List X) → length xs ≤ rota_cells → All (λ x. f x ≤ cell_minutes) xs → held (sum_by f xs) ≡ sum_by f xs
+plain : {X : Type 0} (f : X → ℕ) (xs : List X) → length xs ≤ rota_cells → AllByRecursion (λ x. f x ≤ cell_minutes) xs → held (sum_by f xs) ≡ sum_by f xs
 plain f xs few small =
     let bound = sum_by_le f cell_minutes xs small in let few_times = mul-le-mul_right cell_minutes few in omega arith
 

@@ -3,7 +3,7 @@ use Rattle.std.specs.Prelude.{◌≡◌, ℕ, zero, suc, ◌+◌, ◌*◌, ◌/�
 use Rattle.std.proofs.Common.{sym, ap, ◌∙◌, pow-suc, div-add-mod', div-lt_iff_lt-mul, mod-lt, arith}
 use Rattle.std.proofs.Math.Nat.{pow-succ'}
 use Rattle.std.proofs.Math.Arith.{digits_lt, digits_div, digits_mod}
-use Rattle.std.specs.List.{AllByRecursion as All}
+use Rattle.std.specs.List.{AllByRecursion}
 use Rattle.costs.specs.Bytes.{big_endian, Body}
 
 pub power_positive : (k : ℕ) → 0 < 256 ^ k
@@ -15,7 +15,7 @@ unfolding big_endian
 big_endian_length zero n = refl
 big_endian_length (suc k) n = ap suc (big_endian_length k (n % 256 ^ k))
 
-pub big_endian_bytes : (k n : ℕ) → n < 256 ^ k → All (λ b. b < 256) (big_endian k n)
+pub big_endian_bytes : (k n : ℕ) → n < 256 ^ k → AllByRecursion (λ b. b < 256) (big_endian k n)
 unfolding big_endian
 big_endian_bytes zero n h = tt
 big_endian_bytes (suc k) n h =

@@ -1,6 +1,6 @@
 -- Numbers and bodies as bytes. Assumes nothing.
 use Rattle.std.specs.Prelude.{◌≡◌, ℕ, zero, suc, ◌/◌, ◌%◌, ◌^◌, ◌<◌, List, [], ◌∷◌, length}
-use Rattle.std.specs.List.{AllByRecursion as All}
+use Rattle.std.specs.List.{AllByRecursion}
 
 -- n in k bytes, the highest first
 unfoldable pub big_endian : ℕ → ℕ → List ℕ
@@ -9,7 +9,7 @@ big_endian (suc k) n = (n / 256 ^ k) ∷ big_endian k (n % 256 ^ k)
 
 -- k bytes
 abbrev pub Body : ℕ → List ℕ → Type 0
-Body k bs = (length bs ≡ k) × All (λ b. b < 256) bs
+Body k bs = (length bs ≡ k) × AllByRecursion (λ b. b < 256) bs
 
 -- the first k bytes, where a missing one counts as 0
 abbrev pub first_bytes : ℕ → List ℕ → List ℕ

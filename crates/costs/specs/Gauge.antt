@@ -1,6 +1,6 @@
 -- The rest gauge: from two duties to the cost of driving one after the other. Assumes nothing.
 use Rattle.std.specs.Prelude.{◌≡◌, ℕ, ◌+◌, ◌-◌, ◌≤◌, cond, List, length, nat_lt}
-use Rattle.std.specs.List.{AllByRecursion as All}
+use Rattle.std.specs.List.{AllByRecursion}
 use Rattle.costs.specs.Written.{Written}
 use Rattle.costs.specs.declared.values.Duty.{Duty}
 use Rattle.costs.specs.declared.values.Widened.{Widened}
@@ -15,7 +15,7 @@ pub record Sound (d : Duty) : Type 0 where
 -- a list of n duties, each within its day
 pub record WellFormed (n : ℕ) (ds : List Duty) : Type 0 where
   pub count : length ds ≡ n
-  pub each : All Sound ds
+  pub each : AllByRecursion Sound ds
 
 -- the minutes from the earlier day's finish to the later day's start
 abbrev pub rest_minutes : Duty → Duty → ℕ

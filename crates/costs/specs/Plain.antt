@@ -1,6 +1,6 @@
 -- What a row of cells costs, in whole numbers. Assumes nothing.
 use Rattle.std.specs.Prelude.{◌≡◌, ℕ, ◌*◌, ◌≤◌, max, true, cond, List, [], ◌∷◌, map, length, sum_by, ◌==◌}
-use Rattle.std.specs.List.{AllByRecursion as All}
+use Rattle.std.specs.List.{AllByRecursion}
 use Rattle.costs.specs.Classes.{class_written}
 use Rattle.costs.specs.Totals.{held, total_written}
 use Rattle.costs.specs.declared.values.Class.{Class}
@@ -26,7 +26,7 @@ rota_cells = 14 * 32
 -- the sum of the minutes, held at 2^64 - 1; in a rota's cells no sum comes near that
 pub record Sum (ts : List Total) (t : Total) : Type 0 where
   pub minutes_held : t.minutes ≡ held (sum_by (λ x. x.minutes) ts)
-  pub minutes_plain : length ts ≤ rota_cells → All (λ x. total_written.may_stand x ≡ true) ts → t.minutes ≡ sum_by (λ x. x.minutes) ts
+  pub minutes_plain : length ts ≤ rota_cells → AllByRecursion (λ x. total_written.may_stand x ≡ true) ts → t.minutes ≡ sum_by (λ x. x.minutes) ts
 
 abbrev pub highest : List ℕ → ℕ
 highest [] = 0
@@ -44,4 +44,4 @@ minutes_in k cs = sum_by (λ x. cond (x.class == k) x.minutes 0) cs
 pub record HighestClass (cs : List Class) (c : Class) : Type 0 where
   pub class_is : c.class ≡ highest (map (λ x. x.class) cs)
   pub minutes_held : c.minutes ≡ held (minutes_in c.class cs)
-  pub minutes_plain : length cs ≤ rota_cells → All (λ x. class_written.may_stand x ≡ true) cs → c.minutes ≡ minutes_in c.class cs
+  pub minutes_plain : length cs ≤ rota_cells → AllByRecursion (λ x. class_written.may_stand x ≡ true) cs → c.minutes ≡ minutes_in c.class cs

@@ -1,6 +1,6 @@
 -- The cells that a roster chooses, row by row. Assumes nothing.
 use Rattle.std.proofs.Common.{◌≡◌, ℕ, suc, ◌+◌, ◌<◌, List, [], ◌∷◌, ◌++◌, length, get_or, take, sym, ap, ◌∙◌, subst, arith}
-use Rattle.std.specs.List.{AllByRecursion as All}
+use Rattle.std.specs.List.{AllByRecursion}
 use Rattle.std.proofs.ByRecursion.{All-push}
 use Rattle.std.proofs.lemmas.List.{take_more, length-take-le}
 use Rattle.costs.specs.Kinds.{Operations, Laws, composed}
@@ -22,5 +22,5 @@ module _ {C : Type 0} (t : ℕ → ℕ → C) where
   cost_more {o} laws columns i within = sym (ap (composed o) (chosen_more columns i within) ∙ composed_push laws (chosen t (take i columns)) (t i (get_or columns i 0)))
 
   -- a loop's step: one row more that P holds of
-  pub chosen_all_more : (P : C → Type 0) (columns : List ℕ) (i : ℕ) → i < length columns → All P (chosen t (take i columns)) → P (t i (get_or columns i 0)) → All P (chosen t (take (i + 1) columns))
-  chosen_all_more P columns i within old here = subst (All P) (sym (chosen_more columns i within)) (All-push P (chosen t (take i columns)) (t i (get_or columns i 0)) old here)
+  pub chosen_all_more : (P : C → Type 0) (columns : List ℕ) (i : ℕ) → i < length columns → AllByRecursion P (chosen t (take i columns)) → P (t i (get_or columns i 0)) → AllByRecursion P (chosen t (take (i + 1) columns))
+  chosen_all_more P columns i within old here = subst (AllByRecursion P) (sym (chosen_more columns i within)) (All-push P (chosen t (take i columns)) (t i (get_or columns i 0)) old here)

@@ -1,7 +1,7 @@
 -- A roster's columns meet a set of columns as often as the set has members. Assumes nothing.
 use Rattle.std.proofs.Common.{◌≡◌, ℕ, zero, suc, ◌+◌, ◌-◌, ◌/◌, ◌%◌, ◌^◌, ◌<◌, ◌≤◌, cond, eqb, List, [], ◌∷◌, length, get_or, sum_by, sym, refl, ap, ◌∙◌, ⊎_elim, pow-suc, div-one, arith}
 use lib.Count.{ones, ones_step, ones-le}
-use Rattle.std.specs.List.{AllByRecursion as All}
+use Rattle.std.specs.List.{AllByRecursion}
 use Rattle.std.proofs.lemmas.Nat.{shr-shr}
 use Rattle.std.proofs.ByRecursion.{All-from_get_or}
 use Rattle.std.proofs.lemmas.List.Sums.{sum_by-cons}
@@ -33,17 +33,17 @@ without_one f x (suc n) h =
     (λ other. grind (arith, nat_tests, without_one f x n (omega arith)))
     (cases_eq n x)
 
-sum_without : (f : ℕ → ℕ) (x : ℕ) (xs : List ℕ) → All (λ y. y ≡ x → ⊥) xs → sum_by (without f x) xs ≡ sum_by f xs
+sum_without : (f : ℕ → ℕ) (x : ℕ) (xs : List ℕ) → AllByRecursion (λ y. y ≡ x → ⊥) xs → sum_by (without f x) xs ≡ sum_by f xs
 sum_without f x [] h = refl
 sum_without f x (y ∷ xs) h =
     let here : without f x y ≡ f y = ⊎_elim (λ is. absurd (h.0 is.1)) (λ other. ap (λ b. cond b 0 (f y)) other.0) (eqb_tells y x) in
     omega (arith, here, sum_without f x xs h.1, sum_by-cons f y xs, sum_by-cons (without f x) y xs)
 
 -- different numbers below n come to no more than all of them
-different_sum : (f : ℕ → ℕ) (n : ℕ) (xs : List ℕ) → All (λ x. x < n) xs → Different xs → sum_by f xs ≤ below f n
+different_sum : (f : ℕ → ℕ) (n : ℕ) (xs : List ℕ) → AllByRecursion (λ x. x < n) xs → Different xs → sum_by f xs ≤ below f n
 different_sum f n [] there once = omega arith
 different_sum f n (x ∷ xs) there once =
-    let fresh : All (λ y. y ≡ x → ⊥) xs = All-from_get_or _ xs 0 (λ j within e. once 0 (suc j) (omega arith) (omega arith) (sym e)) in
+    let fresh : AllByRecursion (λ y. y ≡ x → ⊥) xs = All-from_get_or _ xs 0 (λ j within e. once 0 (suc j) (omega arith) (omega arith) (sym e)) in
     let others : sum_by (without f x) xs ≤ below (without f x) n = different_sum (without f x) n xs there.1 (λ i j lt up e. once (suc i) (suc j) (omega arith) (omega arith) e) in
     omega (arith, others, sum_without f x xs fresh, sum_by-cons f x xs, without_one f x n there.0)
 
@@ -61,7 +61,7 @@ module _ (f : ℕ → ℕ) (small : (x : ℕ) → f x ≤ 1) where
   below_both (suc n) = omega (arith, small n, below_both n)
 
   -- n different numbers below n are all of them
-  all_counted : (n : ℕ) (xs : List ℕ) → length xs ≡ n → All (λ x. x < n) xs → Different xs → sum_by f xs ≡ below f n
+  all_counted : (n : ℕ) (xs : List ℕ) → length xs ≡ n → AllByRecursion (λ x. x < n) xs → Different xs → sum_by f xs ≡ below f n
   all_counted n xs whole there once =
       omega (arith, sum_both xs, below_both n, different_sum f n xs there once, different_sum other n xs there once)
 
@@ -91,5 +91,5 @@ bits_are_ones (suc n) mask small =
     omega (arith, below_first (bit mask) n, below_same (λ r. bit mask (suc r)) (bit (mask / 2)) (bit_up mask) n, bits_are_ones n (mask / 2) half, ones_step mask, div-one mask)
 
 -- a roster's columns meet a set of columns as often as it has members
-pub columns_counted : (n mask : ℕ) (columns : List ℕ) → mask < 2 ^ n → length columns ≡ n → All (λ x. x < n) columns → Different columns → sum_by (bit mask) columns ≡ ones mask
+pub columns_counted : (n mask : ℕ) (columns : List ℕ) → mask < 2 ^ n → length columns ≡ n → AllByRecursion (λ x. x < n) columns → Different columns → sum_by (bit mask) columns ≡ ones mask
 columns_counted n mask columns small whole there once = all_counted (bit mask) (bit_small mask) n columns whole there once ∙ bits_are_ones n mask small

@@ -2,7 +2,7 @@
 -- Assumes nothing.
 use Rattle.std.proofs.Common.{◌≡◌, ℕ, zero, suc, ◌+◌, ◌-◌, ◌^◌, ◌<◌, ◌≤◌, Bool, true, false, cond, List, [], ◌∷◌, length, sum_by, sym, refl, ap, ◌∙◌, subst, ap₂, arith}
 use lib.Count.{ones}
-use Rattle.std.specs.List.{AllByRecursion as All}
+use Rattle.std.specs.List.{AllByRecursion}
 use Rattle.std.proofs.lemmas.List.Sums.{sum_by-cons}
 use Rattle.std.proofs.lemmas.Bool.Decides.{nat_tests}
 use Rattle.costs.specs.Kinds.{Operations, Laws, composed}
@@ -101,13 +101,13 @@ module _ {C : Type 0} {o : Operations C} (laws : Laws o) (n : ℕ) (s : Step C) 
   residue r [] = o.empty
   residue r (c ∷ cs) = o.compose (left laws s.amount (I r) (J c) (t r c)) (residue (suc r) cs)
 
-  cost_before : (admissible : Admissible o n t s) (r : ℕ) (cs : List ℕ) → r + length cs ≤ n → All (λ c. c < n) cs → composed o (chosen_from t r cs) ≡ o.compose (times o (inside s.rows s.columns r cs) s.amount) (residue r cs)
+  cost_before : (admissible : Admissible o n t s) (r : ℕ) (cs : List ℕ) → r + length cs ≤ n → AllByRecursion (λ c. c < n) cs → composed o (chosen_from t r cs) ≡ o.compose (times o (inside s.rows s.columns r cs) s.amount) (residue r cs)
   cost_before admissible r [] within there = sym (laws.empty_neutral o.empty)
   cost_before admissible r (c ∷ cs) within there =
       ap (o.compose (t r c)) (cost_before admissible (suc r) cs (omega arith) there.1)
       ∙ row_before laws s.amount (I r) (J c) (t r c) (inside s.rows s.columns (suc r) cs) (residue (suc r) cs) (λ i j. admissible.amount_fits r c (omega arith) there.0 i j)
 
-  cost_after : ((r c : ℕ) → r < n → c < n → u r c ≡ changed o s.amount (I r) (J c) (t r c)) → (r : ℕ) (cs : List ℕ) → r + length cs ≤ n → All (λ c. c < n) cs → composed o (chosen_from u r cs) ≡ o.compose (times o (outside s.rows s.columns r cs) s.amount) (residue r cs)
+  cost_after : ((r c : ℕ) → r < n → c < n → u r c ≡ changed o s.amount (I r) (J c) (t r c)) → (r : ℕ) (cs : List ℕ) → r + length cs ≤ n → AllByRecursion (λ c. c < n) cs → composed o (chosen_from u r cs) ≡ o.compose (times o (outside s.rows s.columns r cs) s.amount) (residue r cs)
   cost_after change r [] within there = sym (laws.empty_neutral o.empty)
   cost_after change r (c ∷ cs) within there =
       ap₂ o.compose (change r c (omega arith) there.0) (cost_after change (suc r) cs (omega arith) there.1)

@@ -1,6 +1,6 @@
 -- What the laws of a kind say of composing and of "at most". Assumes nothing.
 use Rattle.std.proofs.Common.{◌≡◌, true, List, [], ◌∷◌, Decides, sym, ap, ◌∙◌, subst}
-use Rattle.std.specs.List.{AllByRecursion as All}
+use Rattle.std.specs.List.{AllByRecursion}
 use Rattle.costs.specs.Kinds.{Operations, Laws, composed}
 use Rattle.tables.specs.Steps.{Absorbed}
 
@@ -22,7 +22,7 @@ module _ {C : Type 0} {o : Operations C} (laws : Laws o) where
   )
 
   -- cells that are each absorbed are absorbed together
-  pub absorbed_all : (z : C) (cells : List C) → All (Absorbed o z) cells → Absorbed o z (composed o cells)
+  pub absorbed_all : (z : C) (cells : List C) → AllByRecursion (Absorbed o z) cells → Absorbed o z (composed o cells)
   absorbed_all z [] h = empty_right z
   absorbed_all z (b ∷ cells) h = sym (laws.compose_associates z b (composed o cells)) ∙ ap (λ x. o.compose x (composed o cells)) h.0 ∙ absorbed_all z cells h.1
 

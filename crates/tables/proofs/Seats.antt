@@ -1,6 +1,6 @@
 -- A roster is found row by row. Assumes nothing.
 use Rattle.std.proofs.Common.{◌≡◌, ℕ, ◌+◌, ◌<◌, ◌≤◌, List, length, get_or, take, sym, ◌∙◌, subst, ⊎_elim, arith, length-take-le, take_all, get_or-take}
-use Rattle.std.specs.List.{ContainsAt as Has, AllByRecursion as All}
+use Rattle.std.specs.List.{ContainsAt as Has, AllByRecursion}
 use Rattle.std.proofs.ByRecursion.{All-more}
 use Rattle.std.proofs.lemmas.List.{get_or_default}
 use Rattle.std.proofs.lemmas.Bool.{cases_lt}
@@ -8,7 +8,7 @@ use Rattle.tables.specs.Rosters.{Roster}
 
 -- the first i rows have columns below n, and none twice
 pub record Seated (n : ℕ) (columns : List ℕ) (i : ℕ) : Type 0 where
-  pub there : All (λ c. c < n) (take i columns)
+  pub there : AllByRecursion (λ c. c < n) (take i columns)
   pub once : (a b : ℕ) → a < b → b < i → get_or columns a 0 ≡ get_or columns b 0 → ⊥
 
 module _ (n : ℕ) (columns : List ℕ) where
@@ -28,7 +28,7 @@ module _ (n : ℕ) (columns : List ℕ) where
   pub seated_all : length columns ≡ n → (i : ℕ) → n ≤ i → i ≤ n → Seated n columns i → Roster n columns
   seated_all whole i all few old = record {
     every_row = whole;
-    column_there = subst (All (λ c. c < n)) (take_all i columns (omega arith)) old.there;
+    column_there = subst (AllByRecursion (λ c. c < n)) (take_all i columns (omega arith)) old.there;
     none_twice = λ a b lt up e. old.once a b lt (omega arith) e;
   }
 

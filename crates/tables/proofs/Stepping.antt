@@ -1,6 +1,6 @@
 -- The cells after a step, place by place, and what a list of steps does. Assumes nothing.
 use Rattle.std.proofs.Common.{◌≡◌, ℕ, zero, suc, ◌+◌, ◌*◌, ◌/◌, ◌%◌, ◌<◌, ◌≤◌, Bool, true, false, cond, ltb, List, [], ◌∷◌, ◌++◌, map, length, get_or, take, set, IfNone, Some, None, Option, sym, refl, ap, ◌∙◌, subst, ap₂, ⊎_elim, arith, MatchOption}
-use Rattle.std.specs.List.{AllByRecursion as All}
+use Rattle.std.specs.List.{AllByRecursion}
 use Rattle.std.proofs.lemmas.Nat.{mul-add-lt, div-mul-add, mod-mul-add}
 use Rattle.std.proofs.lemmas.List.{get_or_past, get_or_read, get_or-set_other, get_or-set_same, length-set, map_more, same_lists}
 use Rattle.std.proofs.lemmas.Bool.{cases_eq, cases_lt, le-ltb, lt-ltb}
@@ -80,7 +80,7 @@ module _ {C : Type 0} {o : Operations C} (laws : Laws o) (n : ℕ) where
       ∙ sym (laws.compose_associates _ _ _)
 
   -- a roster whose cells are absorbed by what was taken off costs just that, and every other at least that
-  takes_settled : (before : List C) (z : C) (after : List C) → Takes before z after → (columns : List ℕ) → Roster n columns → All (Absorbed o z) (chosen (grid o n after) columns) → (roster_cost o (grid o n before) columns ≡ z) × Cheapest o n (grid o n before) columns
+  takes_settled : (before : List C) (z : C) (after : List C) → Takes before z after → (columns : List ℕ) → Roster n columns → AllByRecursion (Absorbed o z) (chosen (grid o n after) columns) → (roster_cost o (grid o n before) columns ≡ z) × Cheapest o n (grid o n before) columns
   takes_settled before z after takes columns roster absorbed =
       let is_value : roster_cost o (grid o n before) columns ≡ z = takes columns roster ∙ absorbed_all laws z (chosen (grid o n after) columns) absorbed in (
         is_value,

@@ -1,6 +1,6 @@
 -- Steps, the admissible transformations of Burkard, Hahn and Zimmermann (1977). Assumes nothing.
 use Rattle.std.specs.Prelude.{◌≡◌, ℕ, zero, suc, ◌+◌, ◌-◌, ◌*◌, ◌/◌, ◌%◌, ◌^◌, ◌<◌, ◌≤◌, Bool, true, false, cond, List, [], ◌∷◌, map, length, take, ◌==◌, count_ones, nat_lt, slice_index}
-use Rattle.std.specs.List.{AllByRecursion as All}
+use Rattle.std.specs.List.{AllByRecursion}
 use Rattle.costs.specs.Kinds.{Operations, composed}
 use Rattle.costs.specs.declared.values.Widened.{Widened}
 use Rattle.costs.specs.declared.values.Widened.TheVariants.{Allowed, Forbidden}
@@ -74,7 +74,7 @@ Absorbed o z b = o.compose z b ≡ z
 
 -- every cell of a roster is absorbed
 abbrev pub AllAbsorbed : {C : Type 0} → Operations C → (ℕ → ℕ → C) → C → List ℕ → Type 0
-AllAbsorbed o t z columns = All (Absorbed o z) (chosen t columns)
+AllAbsorbed o t z columns = AllByRecursion (Absorbed o z) (chosen t columns)
 
 -- the first row whose cell is not
 pub record FirstNotAbsorbed {C : Type 0} (o : Operations C) (t : ℕ → ℕ → C) (z : C) (columns : List ℕ) (row : ℕ) : Type 0 where

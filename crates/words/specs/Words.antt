@@ -1,7 +1,7 @@
 -- The words of a line, and what they write. Assumes nothing.
 use Rattle.std.specs.Prelude.{◌≡◌, ℕ, ◌^◌, ◌<◌, ◌⊎◌, List, [], ◌∷◌, ◌++◌, length, Ok, Err, vec_items, codes, Result, Vec, ◌≢◌, slice_index_or}
 use Rattle.std.specs.Str.Iter.{LacksByte}
-use Rattle.std.specs.List.{join_with_byte, AllByRecursion as All}
+use Rattle.std.specs.List.{join_with_byte, AllByRecursion}
 use Rattle.std.specs.Str.Parse.{IsNumeral, digits_value}
 use Rattle.std.specs.Char.{is_whitespace, is_not_whitespace}
 use Rattle.std.specs.Str.{NoCharPasses, EmptyOrStartsWithPassing}
@@ -73,7 +73,7 @@ CellText Text bs Forbidden = bs ≡ codes "-"
 pub record CutAtCommas (word : List ℕ) (pieces : List (List ℕ)) : Type 0 where
   pub some : 0 < length pieces
   pub joined : word ≡ join_with_byte 44 pieces
-  pub no_comma : All (LacksByte 44) pieces
+  pub no_comma : AllByRecursion (LacksByte 44) pieces
 
 -- each piece is the text of one item, in their order
 abbrev pub Texts : {X : Type 0} → (List ℕ → X → Type 0) → List (List ℕ) → List X → Type 0

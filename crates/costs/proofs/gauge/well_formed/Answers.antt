@@ -1,6 +1,6 @@
 use mathlib.Core.Bool.{false≢true}
 use Rattle.std.proofs.Common.{refl, subst, take_all}
-use Rattle.std.specs.List.{AllByRecursion as All}
+use Rattle.std.specs.List.{AllByRecursion}
 use Rattle.std.proofs.ByRecursion.{All-get_or, All-more}
 use Rattle.costs.specs.Gauge.{Sound}
 use Rattle.costs.proofs.gauge.well_formed.Goals as goal
@@ -17,6 +17,6 @@ loop-duty-preserved c =
 
 pub returns : goal.returns
 returns c = (
-  λ e. record { count = c.if-duties-n.false; each = subst (All Sound) (take_all _ _ c.loop-duty-test.false) c.loop-duty.invariant },
+  λ e. record { count = c.if-duties-n.false; each = subst (AllByRecursion Sound) (take_all _ _ c.loop-duty-test.false) c.loop-duty.invariant },
   λ h. refl,
 )

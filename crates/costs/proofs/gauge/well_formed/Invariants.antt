@@ -1,7 +1,7 @@
 use Rattle.std.proofs.Common.{take}
-use Rattle.std.specs.List.{AllByRecursion as All}
+use Rattle.std.specs.List.{AllByRecursion}
 use Rattle.costs.specs.Gauge.{Sound}
 use Rattle.costs.proofs.gauge.well_formed.Given as goal
 
 abbrev pub invariant-loop-duty : goal.invariant-loop-duty
-invariant-loop-duty l = All Sound (take l.duty-index l.duties)
+invariant-loop-duty l = AllByRecursion Sound (take l.duty-index l.duties)
