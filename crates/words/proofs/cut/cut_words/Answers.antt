@@ -7,7 +7,7 @@ use Rattle.words.proofs.cut.cut_words.Goals as goal
 
 pub loop-word-init : goal.loop-word-init
 loop-word-init c =
-    words_none _ _ _ (ap split_whitespace_rest c.into_iter-word-iterator.ensures.into_iter-gives ∙ c.split_whitespace-word-items.ensures.rest) (ap behind c.new-words.ensures.items)
+    words_none _ _ _ (ap split_whitespace_rest c.into_iter-word-iterator.ensures.into_iter_gives ∙ c.split_whitespace-word-items.ensures.rest) (ap behind c.new-words.ensures.items)
 
 pub loop-word-preserved : goal.loop-word-preserved
 loop-word-preserved c =

@@ -1,4 +1,4 @@
-use mathlib.Core.Bool.{false≢true}
+use Rattle.std.specs.Cmp.Lexicographic.{other_text}
 use Rattle.std.proofs.Common.{vec_items, subst, arith}
 use Rattle.std.specs.Str.Iter.{LacksByte}
 use Rattle.std.specs.List.{AllWithin}
@@ -12,5 +12,5 @@ returns-in-Ok g c =
     let items = vec_items c.in-Ok.parts in
     let told = c.in-Ok.ensures in
     let free = all_from_every _ items (subst (AllWithin (λ x. LacksByte 44 x.now) items 0) c.in-Ok.parts.ok.0 told.apart) in
-    listed g.T-as-Item.text c.args.word.now (behind items) c.read_pieces.result (λ e. false≢true (c.if-eq.ensures.1 e)) (record { some = omega (arith, told.some, c.in-Ok.parts.ok.0, length-behind items); joined = told.joined; no_comma = All-map (LacksByte 44) (λ x. x.now) items free })
-    (subst (λ l. PiecesRead g.T-as-Item.text (behind l) c.read_pieces.result) c.as_slice.ensures.value c.read_pieces.ensures)
+    listed g.T.Item.text c.args.word.now (behind items) c.read_pieces.result (other_text _ _ c.if-eq.ensures) (record { some = omega (arith, told.some, c.in-Ok.parts.ok.0, length-behind items); joined = told.joined; no_comma = All-map (LacksByte 44) (λ x. x.now) items free })
+    (subst (λ l. PiecesRead g.T.Item.text (behind l) c.read_pieces.result) c.as_slice.ensures.value c.read_pieces.ensures)
