@@ -39,7 +39,7 @@ fn chosen_cells<K: WrittenKind>(
 ) -> Result<Vec<Widened<K>>, AllocError>
     requires rows { length earlier.now ≡ length roster.now }
     requires roster { Roster (length later.now) roster.now }
-    ensures { IfOk result (λ v. v.items ≡ chosen (gauged_grid written earlier.now later.now) roster.now) }
+    ensures { IfOk result (λ v. v.items ≡ chosen (gauged_grid K.written earlier.now later.now) roster.now) }
 {
     let mut cells = Vec::new(heap);
     for i in 0..earlier.len() {

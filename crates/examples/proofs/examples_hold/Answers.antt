@@ -3,12 +3,16 @@ use mathlib.Core.Bool.{false≢true}
 use Prim.Native.Nat.{ℕ, ◌+◌, ◌-◌}
 use native.Mathlib.Omega.{arith}
 use lib.Count.{ones, ones_step, ones-ones}
+use Rattle.costs.specs.Classes.{class_operations}
 use Rattle.costs.specs.Totals.{total_operations}
+use Rattle.costs.specs.Wide.{widened}
+use Rattle.costs.specs.Worsts.{worst_operations}
 use Rattle.costs.specs.declared.values.Total.{Total}
 use Rattle.costs.specs.declared.values.Widened.TheVariants.{Allowed}
 use Rattle.costs.specs.Same.{same_total, same_worst, same_class}
 use Rattle.tables.specs.Steps.{times}
-use Rattle.examples.specs.Worked.{total, two_rows}
+use Rattle.tables.specs.Tables.{grid}
+use Rattle.examples.specs.Worked.{total, worst, class, two_rows, eights}
 use Rattle.examples.proofs.TwoRows.{of_four, cheapest_of_two}
 use Rattle.examples.proofs.examples_hold.Goals as goal
 
@@ -47,7 +51,7 @@ returns c = record {
   threes_value = ap (λ m. total_operations.compose (times total_operations (m + m - 2) (total 3)) total_operations.empty) two_members ∙ same_total _ _ refl;
   settled_in_total = record {
     costs_value = ap Allowed (same_total _ _ refl);
-    cheapest = cheapest_of_two _ _ 0 1 (λ e. omega (arith, e)) (omega arith) (omega arith) refl refl;
+    cheapest = cheapest_of_two (widened total_operations) (grid (widened total_operations) 2 eights) 0 1 (λ e. omega (arith, e)) (omega arith) (omega arith) refl refl;
   };
   reached_in_total = record {
     whole = omega arith;
@@ -74,10 +78,10 @@ returns c = record {
   absorbed_in_total = (ap Allowed (same_total _ _ refl), (ap Allowed (same_total _ _ refl), tt));
   settled_in_worst = record {
     costs_value = ap Allowed (same_worst _ _ refl);
-    cheapest = cheapest_of_two _ _ 1 0 (λ e. omega (arith, e)) (omega arith) (omega arith) refl refl;
+    cheapest = cheapest_of_two (widened worst_operations) (grid (widened worst_operations) 2 (two_rows (worst 0) (worst 5) (worst 4) (worst 8))) 1 0 (λ e. omega (arith, e)) (omega arith) (omega arith) refl refl;
   };
   settled_in_class = record {
     costs_value = ap Allowed (same_class _ _ refl refl);
-    cheapest = cheapest_of_two _ _ 1 0 (λ e. omega (arith, e)) (omega arith) (omega arith) refl refl;
+    cheapest = cheapest_of_two (widened class_operations) (grid (widened class_operations) 2 (two_rows (class 0 0) (class 1 50) (class 1 30) (class 2 1))) 1 0 (λ e. omega (arith, e)) (omega arith) (omega arith) refl refl;
   };
 }
