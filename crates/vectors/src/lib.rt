@@ -6,7 +6,6 @@ mod tests {
     use costs::gauge::rest_cost;
     use costs::kind::{CostKind, WrittenKind};
     use costs::values::{Class, Duty, Total, Widened, Worst};
-    use std::test::Fail;
     use tables::rosters::is_roster;
     use tables::steps::{absorbs, value};
     use tables::table::Table;
@@ -115,11 +114,8 @@ mod tests {
 
     // Rows 0 5 and 4 8, with two cells in surplus, and the steps that settle them.
     #[test]
-    fn settling_steps(rt: HostRuntime) -> Result<(), Fail> {
-        let Some(size) = Size::of(2) else {
-            assert!(rt; false);
-            return Ok(());
-        };
+    fn settling_steps(rt: HostRuntime) {
+        let size = Size::of(2).expect(&rt, "2 is a size");
         let mut cells = [
             cell(0),
             cell(5),
@@ -147,21 +143,15 @@ mod tests {
             table.first_not_absorbed(Total { minutes: 8 }, &[1, 0]),
             Some(0)
         );
-        match table.least(1, 2) {
-            Some(least) => assert_eq!(rt;
-                (minutes(least.amount), least.row, least.column),
-                (Some(1), 0, 1)
-            ),
-            None => {
-                assert!(rt; false);
-                return Ok(())
-            },
-        }
+        let least = table.least(1, 2).expect(&rt, "a cell lies in both sets");
+        assert_eq!(rt;
+            (minutes(least.amount), least.row, least.column),
+            (Some(1), 0, 1)
+        );
         assert!(rt; table.least(0, 2).is_none());
         assert_eq!(rt; (minutes(cells[0]), minutes(cells[1])), (Some(0), Some(1)));
         assert_eq!(rt; (minutes(cells[2]), minutes(cells[3])), (Some(0), Some(0)));
         assert_eq!(rt; (minutes(cells[4]), minutes(cells[5])), (Some(7), None));
-        Ok(())
     }
 
     // A cell that is not empty can be absorbed: a lower class adds nothing to a higher one.
