@@ -8,7 +8,7 @@ use Rattle.costs.specs.declared.values.Class.{Class}
 use Rattle.costs.specs.BigEndian.{big_endian_body, big_endian_same, big_endian_every}
 use Rattle.costs.specs.Same.{same_class}
 use Rattle.costs.specs.Written.{WrittenLaws}
-use Rattle.costs.specs.WrittenLaws.{faithful}
+use Rattle.costs.specs.WrittenLaws.{written_laws}
 
 has_size : (c : Class) → Body 9 (class_written.body c)
 has_size c = let minutes = big_endian_body 8 c.minutes c.fits in (omega (arith, minutes.0), (c.byte, minutes.1))
@@ -26,4 +26,4 @@ every (b ∷ bs) h =
     (record { class = b; minutes = found.0; byte = h.1.0; fits = found.1 }, ap (λ l. b ∷ l) found.2)
 
 pub class_faithful : WrittenLaws class_written
-class_faithful = faithful class_written (omega arith) (omega arith) has_size same every (λ m h. grind (arith, nat_tests))
+class_faithful = written_laws class_written (omega arith) (omega arith) has_size same every (λ m h. grind (arith, nat_tests))

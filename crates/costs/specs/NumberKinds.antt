@@ -6,7 +6,7 @@ use Rattle.costs.specs.Bytes.{big_endian}
 use Rattle.costs.specs.Kinds.{Operations, Laws}
 use Rattle.costs.specs.Written.{WrittenLaws}
 use Rattle.costs.specs.BigEndian.{big_endian_body, big_endian_same, big_endian_every}
-use Rattle.costs.specs.WrittenLaws.{faithful}
+use Rattle.costs.specs.WrittenLaws.{written_laws}
 
 -- what the numbers of a kind keep, where "at most" compares them
 pub record NumberFacts {C : Type 0} (o : Operations C) (number : C → ℕ) : Type 0 where
@@ -41,7 +41,7 @@ module _ {C : Type 0} (number : C → ℕ) (same : (a b : C) → number a ≡ nu
   -- a number of k bytes is its own body
   pub number_written : (k code : ℕ) (may_stand : C → Bool) (shortage : ℕ → C) → code < 256 → k ≤ 16 → ((c : C) → number c < 256 ^ k) → (of : (n : ℕ) → n < 256 ^ k → C) → ((n : ℕ) (h : n < 256 ^ k) → number (of n h) ≡ n) → ((m : ℕ) → m ≤ 120 → may_stand (shortage m) ≡ true) → WrittenLaws (record { code = code; body_size = k; body = λ c. big_endian k (number c); may_stand = may_stand; shortage = shortage })
   number_written k code may_stand shortage byte short fits of of_is stand =
-      faithful _ byte short (λ c. big_endian_body k (number c) (fits c))
+      written_laws _ byte short (λ c. big_endian_body k (number c) (fits c))
       (λ c d e. same c d (big_endian_same k (number c) (number d) (fits c) (fits d) e))
       (λ bs h. let found = big_endian_every k bs h in (of found.0 found.1, ap (big_endian k) (of_is found.0 found.1) ∙ found.2))
       stand

@@ -11,8 +11,8 @@ first_bytes_whole (suc k) [] e = absurd (omega arith)
 first_bytes_whole (suc k) (b ∷ bs) e = ap (λ l. b ∷ l) (first_bytes_whole k bs (omega arith))
 
 module _ {C : Type 0} (w : Written C) where
-  pub faithful : w.code < 256 → w.body_size ≤ 16 → ((c : C) → Body w.body_size (w.body c)) → ((c d : C) → w.body c ≡ w.body d → c ≡ d) → ((bs : List ℕ) → Body w.body_size bs → (c : C) × (w.body c ≡ bs)) → ((m : ℕ) → m ≤ 120 → w.may_stand (w.shortage m) ≡ true) → WrittenLaws w
-  faithful code short has_size same every stand = record {
+  pub written_laws : w.code < 256 → w.body_size ≤ 16 → ((c : C) → Body w.body_size (w.body c)) → ((c d : C) → w.body c ≡ w.body d → c ≡ d) → ((bs : List ℕ) → Body w.body_size bs → (c : C) × (w.body c ≡ bs)) → ((m : ℕ) → m ≤ 120 → w.may_stand (w.shortage m) ≡ true) → WrittenLaws w
+  written_laws code short has_size same every stand = record {
     code_is_byte = code;
     body_is_short = short;
     body_has_size = has_size;
