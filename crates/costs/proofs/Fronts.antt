@@ -1,40 +1,51 @@
 -- What is written to and read from the front of a slice. Assumes nothing.
-use Rattle.std.specs.Prelude.{◌≡◌, ℕ, zero, suc, ◌+◌, ◌<◌, ◌≤◌, List, [], ◌∷◌, ◌++◌, length, take, drop, slice_index, slice_set, refl}
-use Rattle.std.proofs.Common.{sym, ap, ◌∙◌, arith, length-take-le}
-use Rattle.std.proofs.lemmas.List.{take_more}
+use Rattle.std.proofs.Common.{◌≡◌, ℕ, zero, suc, ◌+◌, ◌<◌, List, [], ◌∷◌, ◌++◌, length, get_or, min, take, drop, replicate, refl, subst, Fits, w8, sym, ap, ◌∙◌, arith, length-drop, drop-cons}
 use Rattle.costs.specs.Bytes.{first_bytes, over}
 
--- one byte more, where there is room for it
-over_put : (bs out : List ℕ) (i : ℕ) (b : ℕ) → i ≡ length bs → i < length out → slice_set (over bs out) i b ≡ over (bs ++ (b ∷ [])) out
-over_put [] [] i b e h = absurd (omega arith)
-over_put [] (x ∷ out) zero b e h = refl
-over_put [] (x ∷ out) (suc i) b e h = absurd (omega arith)
-over_put (c ∷ bs) [] i b e h = absurd (omega arith)
-over_put (c ∷ bs) (x ∷ out) zero b e h = absurd (omega arith)
-over_put (c ∷ bs) (x ∷ out) (suc i) b e h = ap (λ l. c ∷ l) (over_put bs out i b (omega arith) (omega arith))
+-- what has room, and behind it what was there
+pub over_front : (bs out : List ℕ) (room : ℕ) → room ≡ min (length bs) (length out) → take room bs ++ drop room out ≡ over bs out
+over_front [] out zero e = refl
+over_front [] out (suc room) e = absurd (omega arith)
+over_front (b ∷ bs) [] zero e = refl
+over_front (b ∷ bs) [] (suc room) e = absurd (omega arith)
+over_front (b ∷ bs) (x ∷ out) zero e = absurd (omega arith)
+over_front (b ∷ bs) (x ∷ out) (suc room) e = ap (λ l. b ∷ l) (over_front bs out room (omega arith))
 
--- and where there is none
-over_full : (bs out : List ℕ) (b : ℕ) → length out ≤ length bs → over bs out ≡ over (bs ++ (b ∷ [])) out
-over_full [] [] b h = refl
-over_full [] (x ∷ out) b h = absurd (omega arith)
-over_full (c ∷ bs) [] b h = refl
-over_full (c ∷ bs) (x ∷ out) b h = ap (λ l. c ∷ l) (over_full bs out b (omega arith))
+-- written over zeros, a missing byte is 0
+pub over_zeros : (bs : List ℕ) (k : ℕ) → over bs (replicate k 0) ≡ first_bytes k bs
+over_zeros [] zero = refl
+over_zeros [] (suc k) = ap (λ l. 0 ∷ l) (over_zeros [] k)
+over_zeros (b ∷ bs) zero = refl
+over_zeros (b ∷ bs) (suc k) = ap (λ l. b ∷ l) (over_zeros bs k)
 
--- a loop that writes bs byte by byte: the byte at i, where there is room for it
-pub over_more : (bs out : List ℕ) (i : ℕ) → i < length bs → i < length out → slice_set (over (take i bs) out) i (slice_index bs i) ≡ over (take (i + 1) bs) out
-over_more bs out i h room = over_put (take i bs) out i (slice_index bs i) (sym (length-take-le i bs (omega arith))) room ∙ ap (λ l. over l out) (sym (take_more bs i 0 h))
+pub length_front : (k : ℕ) (bs : List ℕ) → length (first_bytes k bs) ≡ k
+length_front zero bs = refl
+length_front (suc k) [] = ap suc (length_front k [])
+length_front (suc k) (b ∷ bs) = ap suc (length_front k bs)
 
--- and where there is none
-pub over_no_more : (bs out : List ℕ) (i : ℕ) → i < length bs → length out ≤ i → over (take i bs) out ≡ over (take (i + 1) bs) out
-over_no_more bs out i h full = over_full (take i bs) out (slice_index bs i) (omega (arith, length-take-le i bs (omega arith))) ∙ ap (λ l. over l out) (sym (take_more bs i 0 h))
+-- whose elements are bytes
+abbrev pub Small : List ℕ → Type 0
+Small bs = (i : ℕ) → get_or bs i 0 < 256
 
-pub first_bytes_push : (k : ℕ) (bs : List ℕ) → first_bytes (suc k) bs ≡ first_bytes k bs ++ (slice_index bs k ∷ [])
-first_bytes_push zero [] = refl
-first_bytes_push zero (b ∷ bs) = refl
-first_bytes_push (suc k) [] = ap (λ l. 0 ∷ l) (first_bytes_push k [])
-first_bytes_push (suc k) (b ∷ bs) = ap (λ l. b ∷ l) (first_bytes_push k bs)
+small_first : (k : ℕ) (bs : List ℕ) → Small bs → Small (first_bytes k bs)
+small_first zero bs small i = omega arith
+small_first (suc k) [] small zero = omega arith
+small_first (suc k) [] small (suc i) = small_first k [] small i
+small_first (suc k) (b ∷ bs) small zero = small zero
+small_first (suc k) (b ∷ bs) small (suc i) = small_first k bs (λ j. small (suc j)) i
 
--- the first byte, and those behind it
-pub first_bytes_split : (k : ℕ) (bs : List ℕ) → first_bytes (suc k) bs ≡ slice_index bs 0 ∷ first_bytes k (drop 1 bs)
-first_bytes_split k [] = refl
-first_bytes_split k (b ∷ bs) = refl
+-- k bytes that were read from the front
+pub small_front : (k : ℕ) (bs front : List ℕ) → ((i : ℕ) → Fits w8 (get_or bs i 0)) → front ≡ first_bytes k bs → Small front
+small_front k bs front fits e = subst Small (sym e) (small_first k bs (λ i. omega (arith, fits i)))
+
+-- k elements one by one, from the i-th on
+abbrev pub one_by_one : List ℕ → ℕ → ℕ → List ℕ
+one_by_one xs zero i = []
+one_by_one xs (suc k) i = get_or xs i 0 ∷ one_by_one xs k (suc i)
+
+pub as_one_by_one : (xs : List ℕ) (k i : ℕ) → length xs ≡ i + k → drop i xs ≡ one_by_one xs k i
+as_one_by_one xs zero i e = nothing (drop i xs) (omega (arith, length-drop i xs)) where
+  nothing : (l : List ℕ) → length l ≡ 0 → l ≡ []
+  nothing [] h = refl
+  nothing (x ∷ l) h = absurd (omega arith)
+as_one_by_one xs (suc k) i e = drop-cons xs i 0 (omega arith) ∙ ap (λ l. get_or xs i 0 ∷ l) (as_one_by_one xs k (suc i) (omega arith))

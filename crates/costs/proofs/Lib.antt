@@ -1,4 +1,3 @@
 pub mod BigEndian
 pub mod Fronts
-pub mod PlainCosts
 pub mod Rows

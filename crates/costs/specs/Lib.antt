@@ -7,6 +7,7 @@ pub mod Kinds
 pub mod MinutesLaws
 pub mod NumberKinds
 pub mod Plain
+pub mod PlainRows
 pub mod Same
 pub mod Shown
 pub mod Totals

@@ -1,43 +1,35 @@
 // Bytes at the front of a slice.
-ghost use Rattle.std.specs.Prelude.{◌≡◌, ◌^◌, ◌<◌, ◌≤◌, drop, slice_index};
+ghost use Rattle.std.specs.Prelude.{◌≡◌, ◌^◌, ◌<◌, slice_index};
 ghost use Rattle.costs.specs.Bytes.{big_endian, first_bytes, over};
 
 // Writes all bytes that have room.
 pub fn put(bytes: &[u8], out: &mut [u8])
     ensures { out.new ≡ over bytes.now out.old }
 {
-    for (i, b) in bytes.iter().enumerate() {
-        if i < out.len() {
-            out[i] = *b;
-        }
-    }
+    let room = bytes.len().min(out.len());
+    out[..room].copy_from_slice(&bytes[..room]);
 }
 
 // The byte at `i`, or 0 where there is none.
 pub fn byte_at(bytes: &[u8], i: usize) -> u8
     ensures { result ≡ slice_index bytes.now i }
 {
-    if i < bytes.len() { bytes[i] } else { 0 }
+    bytes.get(i).copied().unwrap_or(0)
 }
 
-// The number that `size` bytes from `start` on write, the highest first; a missing byte counts as 0.
-pub(crate) fn number(bytes: &[u8], start: usize, size: usize) -> u64
-    requires start { start ≤ 8 }
-    requires size { size ≤ 8 }
-    ensures digits { big_endian size result ≡ first_bytes size (drop start bytes.now) }
-    ensures bound { result < 256 ^ size }
+// The first `N` bytes; a missing byte counts as 0.
+pub fn first_bytes<const N: usize>(bytes: &[u8]) -> [u8; N]
+    ensures { result ≡ first_bytes N bytes.now }
 {
-    let mut n: u64 = 0;
-    for i in 0..size {
-        n = n * 256 + byte_at(bytes, start + i) as u64;
-    }
-    n
+    let mut first = [0; N];
+    put(bytes, &mut first);
+    first
 }
 
-// The number that the first four bytes write; a missing byte counts as 0.
+// The number that the first four bytes write, the highest first; a missing byte counts as 0.
 pub fn number_32(bytes: &[u8]) -> u32
     ensures digits { big_endian 4 result ≡ first_bytes 4 bytes.now }
     ensures bound { result < 2 ^ 32 }
 {
-    number(bytes, 0, 4) as u32
+    u32::from_be_bytes(first_bytes(bytes))
 }

@@ -1,12 +1,15 @@
 // Class: the cost of the higher class, and in equal classes the sum of the minutes.
+ghost use Rattle.std.specs.Prelude.{refl};
 ghost use Rattle.costs.specs.Classes.{class_operations, class_written};
 ghost use Rattle.std.proofs.Common.{arith};
 ghost use Rattle.std.proofs.lemmas.Bool.Decides.{nat_tests};
+ghost use Rattle.costs.specs.Plain.{HighestClass};
+ghost use Rattle.costs.specs.PlainRows.{class_means};
 ghost use Rattle.costs.specs.Same.{same_class};
 ghost use Rattle.costs.specs.ClassBodies.{class_faithful};
 
-use crate::bytes::{byte_at, number, put};
-use crate::kind::{CostKind, WrittenKind};
+use crate::bytes::{first_bytes, put};
+use crate::kind::{CostKind, PlainKind, WrittenKind};
 use crate::values::{CELL_MINUTES, Class};
 use std::cmp::Ordering;
 
@@ -46,15 +49,12 @@ impl CostKind for Class {
     }
 
     fn at_most(self, other: Class) -> bool {
-        self.class < other.class || (self.class == other.class && self.minutes <= other.minutes)
+        self <= other
     }
 
     fn rest(self, to: Class) -> Class {
-        if !self.at_most(to) {
-            Class {
-                class: 0,
-                minutes: 0,
-            }
+        if self > to {
+            Class::empty()
         } else if self.class == to.class {
             Class {
                 class: to.class,
@@ -66,8 +66,25 @@ impl CostKind for Class {
     }
 }
 
+impl PlainKind for Class {
+    ghost means = { HighestClass };
+
+    ghost row_means = { class_means class_operations (record {
+      no_class = refl;
+      no_minutes = refl;
+      higher = λ a b. Prim.grind (arith, nat_tests);
+      first_alone = λ a b above. Prim.grind (arith, nat_tests);
+      second_alone = λ a b below. Prim.grind (arith, nat_tests);
+      together = λ a b same. Prim.grind (arith, nat_tests);
+    }) };
+}
+
 impl WrittenKind for Class {
+    ghost CODE = { 3 };
+
     const CODE: u8 = 3;
+
+    ghost BODY_SIZE = { 9 };
 
     const BODY_SIZE: usize = 9;
 
@@ -75,13 +92,9 @@ impl WrittenKind for Class {
 
     ghost faithful = { class_faithful };
 
-    fn code_byte() -> u8 {
-        Self::CODE
-    }
+    ghost code_is = { refl };
 
-    fn body_length() -> usize {
-        Self::BODY_SIZE
-    }
+    ghost size_is = { refl };
 
     fn write_body(self, out: &mut [u8]) {
         let [a, b, c, d, e, f, g, h] = self.minutes.to_be_bytes();
@@ -89,9 +102,10 @@ impl WrittenKind for Class {
     }
 
     fn read_body(bytes: &[u8]) -> Class {
+        let [class, a, b, c, d, e, f, g, h] = first_bytes::<9>(bytes);
         Class {
-            class: byte_at(bytes, 0),
-            minutes: number(bytes, 1, 8),
+            class,
+            minutes: u64::from_be_bytes([a, b, c, d, e, f, g, h]),
         }
     }
 

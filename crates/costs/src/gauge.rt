@@ -23,15 +23,7 @@ fn sound(duty: Duty) -> bool
 pub fn well_formed(duties: &[Duty], n: usize) -> bool
     ensures { Decides result (WellFormed n duties.now) }
 {
-    if duties.len() != n {
-        return false;
-    }
-    for duty in duties {
-        if !sound(*duty) {
-            return false;
-        }
-    }
-    true
+    duties.len() == n && duties.iter().all(|duty| sound(*duty))
 }
 
 // The minutes of rest between two duties, the later one a day after the earlier; 0 where there are none.

@@ -1,7 +1,7 @@
 // The cost interface: what a kind of cost can do, and what it must keep.
-ghost use Rattle.std.specs.Prelude.{◌≡◌};
+ghost use Rattle.std.specs.Prelude.{◌≡◌, ℕ, List};
 ghost use Rattle.costs.specs.Bytes.{over};
-ghost use Rattle.costs.specs.Kinds.{Operations, Laws};
+ghost use Rattle.costs.specs.Kinds.{Operations, Laws, composed};
 ghost use Rattle.costs.specs.Written.{Written, WrittenLaws, Read};
 
 pub trait CostKind: Copy {
@@ -23,20 +23,25 @@ pub trait CostKind: Copy {
     ghost lawful: { Laws operations };
 }
 
+// A kind whose rows of costs come to something in whole numbers.
+pub trait PlainKind: CostKind {
+    ghost means: { List Self → Self → Type 0 };
+
+    ghost row_means: { (costs : List Self) → means costs (composed Self.operations costs) };
+}
+
 // A kind that goes into certificates.
 pub trait WrittenKind: CostKind {
+    // Each constant is tied to the ghost member of its name, by which generic code knows its value.
+    ghost CODE: { ℕ };
+
     const CODE: u8;
+
+    ghost BODY_SIZE: { ℕ };
 
     const BODY_SIZE: usize;
 
     ghost written: { Written Self };
-
-    // Generic code knows no constant's value, so it asks these two, which each kind answers by its constants.
-    fn code_byte() -> u8
-        ensures { result ≡ written.code };
-
-    fn body_length() -> usize
-        ensures { result ≡ written.body_size };
 
     // Writes the body to the front of `out`, as far as `out` reaches.
     fn write_body(self, out: &mut [u8])
@@ -55,4 +60,8 @@ pub trait WrittenKind: CostKind {
         ensures { result ≡ written.shortage minutes };
 
     ghost faithful: { WrittenLaws written };
+
+    ghost code_is: { CODE ≡ written.code };
+
+    ghost size_is: { BODY_SIZE ≡ written.body_size };
 }

@@ -9,8 +9,7 @@ impl fmt::Display for Total {
     ghost output = { λ c. Some (decimal c.minutes) };
 
     fn fmt<W: fmt::Write>(&self, f: &mut fmt::Formatter<W>) -> fmt::Result {
-        let minutes = self.minutes;
-        write!(f, "{minutes}")
+        self.minutes.fmt(f)
     }
 }
 
@@ -18,8 +17,7 @@ impl fmt::Display for Worst {
     ghost output = { λ c. Some (decimal c.minutes) };
 
     fn fmt<W: fmt::Write>(&self, f: &mut fmt::Formatter<W>) -> fmt::Result {
-        let minutes = self.minutes;
-        write!(f, "{minutes}")
+        self.minutes.fmt(f)
     }
 }
 
@@ -27,9 +25,7 @@ impl fmt::Display for Class {
     ghost output = { λ c. Some (decimal c.class ++ (codes ":" ++ decimal c.minutes)) };
 
     fn fmt<W: fmt::Write>(&self, f: &mut fmt::Formatter<W>) -> fmt::Result {
-        let class = self.class;
-        let minutes = self.minutes;
-        write!(f, "{class}:{minutes}")
+        write!(f, "{}:{}", self.class, self.minutes)
     }
 }
 

@@ -1,9 +1,12 @@
 // Total: the sum of the minutes.
+ghost use Rattle.std.specs.Prelude.{refl};
 ghost use Rattle.costs.specs.Totals.{total_operations, total_written};
+ghost use Rattle.costs.specs.Plain.{Sum};
+ghost use Rattle.costs.specs.PlainRows.{total_means};
 ghost use Rattle.costs.specs.MinutesLaws.{total_laws, total_faithful};
 
-use crate::bytes::{number, put};
-use crate::kind::{CostKind, WrittenKind};
+use crate::bytes::{first_bytes, put};
+use crate::kind::{CostKind, PlainKind, WrittenKind};
 use crate::values::{CELL_MINUTES, Total};
 
 impl CostKind for Total {
@@ -22,7 +25,7 @@ impl CostKind for Total {
     }
 
     fn at_most(self, other: Total) -> bool {
-        self.minutes <= other.minutes
+        self <= other
     }
 
     fn rest(self, to: Total) -> Total {
@@ -32,8 +35,18 @@ impl CostKind for Total {
     }
 }
 
+impl PlainKind for Total {
+    ghost means = { Sum };
+
+    ghost row_means = { total_means };
+}
+
 impl WrittenKind for Total {
+    ghost CODE = { 1 };
+
     const CODE: u8 = 1;
+
+    ghost BODY_SIZE = { 8 };
 
     const BODY_SIZE: usize = 8;
 
@@ -41,13 +54,9 @@ impl WrittenKind for Total {
 
     ghost faithful = { total_faithful };
 
-    fn code_byte() -> u8 {
-        Self::CODE
-    }
+    ghost code_is = { refl };
 
-    fn body_length() -> usize {
-        Self::BODY_SIZE
-    }
+    ghost size_is = { refl };
 
     fn write_body(self, out: &mut [u8]) {
         put(&self.minutes.to_be_bytes(), out);
@@ -55,7 +64,7 @@ impl WrittenKind for Total {
 
     fn read_body(bytes: &[u8]) -> Total {
         Total {
-            minutes: number(bytes, 0, Self::BODY_SIZE),
+            minutes: u64::from_be_bytes(first_bytes(bytes)),
         }
     }
 

@@ -5,21 +5,21 @@ ghost use Rattle.std.specs.Prelude.{◌^◌, ◌<◌};
 pub const CELL_MINUTES: u32 = 1_000_000;
 
 // Total: all minutes of short rest together.
-#[derive(Clone, Copy)]
+#[derive(Clone, Copy, Debug, PartialEq, Eq, PartialOrd, Ord, Hash)]
 pub struct Total {
     pub minutes: u64,
     ghost fits: { minutes < 2 ^ 64 },
 }
 
 // Worst: the longest shortage of rest.
-#[derive(Clone, Copy)]
+#[derive(Clone, Copy, Debug, PartialEq, Eq, PartialOrd, Ord, Hash)]
 pub struct Worst {
     pub minutes: u32,
     ghost fits: { minutes < 2 ^ 32 },
 }
 
 // Class: the worst class of short rest, with its minutes.
-#[derive(Clone, Copy)]
+#[derive(Clone, Copy, Debug, PartialEq, Eq, PartialOrd, Ord, Hash)]
 pub struct Class {
     pub class: u8,
     pub minutes: u64,
@@ -28,14 +28,14 @@ pub struct Class {
 }
 
 // Any kind, widened by the cost forbidden, which is greater than all others.
-#[derive(Clone, Copy)]
+#[derive(Clone, Copy, Debug, PartialEq, Eq, Hash)]
 pub enum Widened<K> {
     Allowed(K),
     Forbidden,
 }
 
 // A duty: a driver's work from its start to its finish, in minutes of its day.
-#[derive(Clone, Copy)]
+#[derive(Clone, Copy, Debug, PartialEq, Eq, Hash)]
 pub struct Duty {
     pub start: u16,
     pub finish: u16,

@@ -1,9 +1,12 @@
 // Worst: the greater of the minutes.
+ghost use Rattle.std.specs.Prelude.{refl};
 ghost use Rattle.costs.specs.Worsts.{worst_operations, worst_written};
+ghost use Rattle.costs.specs.Plain.{Highest};
+ghost use Rattle.costs.specs.PlainRows.{worst_means};
 ghost use Rattle.costs.specs.MinutesLaws.{worst_laws, worst_faithful};
 
-use crate::bytes::{number, put};
-use crate::kind::{CostKind, WrittenKind};
+use crate::bytes::{number_32, put};
+use crate::kind::{CostKind, PlainKind, WrittenKind};
 use crate::values::{CELL_MINUTES, Worst};
 
 impl CostKind for Worst {
@@ -16,26 +19,30 @@ impl CostKind for Worst {
     }
 
     fn compose(self, other: Worst) -> Worst {
-        Worst {
-            minutes: self.minutes.max(other.minutes),
-        }
+        self.max(other)
     }
 
     fn at_most(self, other: Worst) -> bool {
-        self.minutes <= other.minutes
+        self <= other
     }
 
     fn rest(self, to: Worst) -> Worst {
-        if self.minutes < to.minutes {
-            to
-        } else {
-            Worst { minutes: 0 }
-        }
+        if self < to { to } else { Worst::empty() }
     }
 }
 
+impl PlainKind for Worst {
+    ghost means = { Highest };
+
+    ghost row_means = { worst_means };
+}
+
 impl WrittenKind for Worst {
+    ghost CODE = { 2 };
+
     const CODE: u8 = 2;
+
+    ghost BODY_SIZE = { 4 };
 
     const BODY_SIZE: usize = 4;
 
@@ -43,13 +50,9 @@ impl WrittenKind for Worst {
 
     ghost faithful = { worst_faithful };
 
-    fn code_byte() -> u8 {
-        Self::CODE
-    }
+    ghost code_is = { refl };
 
-    fn body_length() -> usize {
-        Self::BODY_SIZE
-    }
+    ghost size_is = { refl };
 
     fn write_body(self, out: &mut [u8]) {
         put(&self.minutes.to_be_bytes(), out);
@@ -57,7 +60,7 @@ impl WrittenKind for Worst {
 
     fn read_body(bytes: &[u8]) -> Worst {
         Worst {
-            minutes: number(bytes, 0, Self::BODY_SIZE) as u32,
+            minutes: number_32(bytes),
         }
     }
 

@@ -4,7 +4,7 @@ ghost use Rattle.desk.specs.Prices.{gauged_grid, Priced, Answered};
 ghost use Rattle.tables.specs.Rosters.{Roster};
 ghost use Rattle.tables.specs.Tables.{chosen};
 
-use costs::composition::{class_cost, total_cost, worst_cost};
+use costs::composition::plain_cost;
 use costs::gauge::{rest_cost, well_formed};
 use costs::kind::WrittenKind;
 use costs::values::{Class, Duty, Total, Widened, Worst};
@@ -62,15 +62,15 @@ fn price_chosen(
     match kind {
         Kind::Total => {
             let cells = chosen_cells(heap, earlier, later, roster)?;
-            Ok(Price::InTotal(total_cost(cells.as_slice())))
+            Ok(Price::InTotal(plain_cost::<Total>(cells.as_slice())))
         }
         Kind::Worst => {
             let cells = chosen_cells(heap, earlier, later, roster)?;
-            Ok(Price::InWorst(worst_cost(cells.as_slice())))
+            Ok(Price::InWorst(plain_cost::<Worst>(cells.as_slice())))
         }
         Kind::Class => {
             let cells = chosen_cells(heap, earlier, later, roster)?;
-            Ok(Price::InClass(class_cost(cells.as_slice())))
+            Ok(Price::InClass(plain_cost::<Class>(cells.as_slice())))
         }
     }
 }

@@ -1,12 +1,11 @@
 // `weigh`: what a roster by hand costs in a table by hand.
 ghost use Rattle.std.specs.Prelude.{◌≡◌, ℕ, MatchOption};
-ghost use Rattle.costs.specs.Kinds.{composed};
-ghost use Rattle.costs.specs.Wide.{widened};
+ghost use Rattle.costs.specs.Plain.{CostOf};
 ghost use Rattle.desk.specs.Weighing.{SizeText, TableWeighed, WordsWeighed, KindWeighed};
 
 use crate::faults::WeighFault;
 use crate::price::Price;
-use costs::kind::CostKind;
+use costs::kind::PlainKind;
 use costs::values::{Class, Total, Widened, Worst};
 use std::alloc::Global;
 use tables::rosters::is_roster;
@@ -34,13 +33,13 @@ fn read_size(word: &str) -> Option<Size>
     Size::of(n as usize)
 }
 
-fn weigh_table<K: CostKind>(
+fn weigh_table<K: PlainKind>(
     size: Size,
     cells: &mut [Widened<K>],
     roster: &[u8],
 ) -> Result<Widened<K>, Unweighed>
     ensures kept { cells.new ≡ cells.old }
-    ensures answer { TableWeighed K.operations (λ cells cost. cost ≡ composed (widened K.operations) cells) size.n cells.old roster.now result }
+    ensures answer { TableWeighed K.operations (CostOf K.means) size.n cells.old roster.now result }
 {
     let n = size.rows();
     if cells.len() != n * n {
@@ -54,13 +53,13 @@ fn weigh_table<K: CostKind>(
 }
 
 // The cost in one kind, or the first word that cannot be read, or what is wrong with the table and the roster.
-fn weigh_words<K: CostKind + Item>(
+fn weigh_words<K: PlainKind + Item>(
     heap: Global,
     size: &str,
     cells: &str,
     roster: &str,
 ) -> Result<Widened<K>, WeighFault>
-    ensures { WordsWeighed K.operations K.text (λ cells cost. cost ≡ composed (widened K.operations) cells) (record { size_word = size.now; cells_word = cells.now; roster_word = roster.now }) result }
+    ensures { WordsWeighed K.operations K.text (CostOf K.means) (record { size_word = size.now; cells_word = cells.now; roster_word = roster.now }) result }
 {
     let Some(size) = read_size(size) else {
         return Err(WeighFault::NoSize);
