@@ -8,9 +8,5 @@ use std::alloc::{AllocError, Global};
 pub fn cut_words<'a>(heap: Global, line: &'a str) -> Result<Vec<&'a str>, AllocError>
     ensures { IfOk result (λ v. WordsOf line.now (map (λ x. x.now) v.items)) }
 {
-    let mut words = Vec::new(heap);
-    for word in line.split_whitespace() {
-        words.push(word)?;
-    }
-    Ok(words)
+    line.split_whitespace().collect(heap)
 }
