@@ -1,23 +1,15 @@
 -- Numbers and pairs of numbers as text. Assumes nothing.
-use Rattle.std.proofs.Common.{◌≡◌, ℕ, suc, ◌^◌, ◌<◌, ◌≤◌, List, [], ◌∷◌, ◌++◌, length, get_or, Some, sym, refl, ap, ◌∙◌, subst, arith, length-append, pow_mono, Bor}
+use Rattle.std.proofs.Common.{◌≡◌, ℕ, suc, ◌^◌, ◌<◌, ◌≤◌, List, [], ◌∷◌, ◌++◌, None, Some, Option, refl, MatchOption, sym, ap, ◌∙◌, arith, pow_mono, Bor}
 use Rattle.std.specs.Str.Iter.{LacksByte}
-use Rattle.std.specs.Str.Parse.{IsNumeral}
+use Rattle.std.specs.Str.Parse.{AllDigits, IsNumeral, digits_value}
 use Rattle.std.specs.Int.{IsInRange}
-use Rattle.std.proofs.lemmas.List.{get_or_at}
-use Rattle.std.proofs.lemmas.Str.Parse.{digit_at}
-use Rattle.std.proofs.lemmas.Str.Pattern.{IsSplitOnceResult, split_parts}
+use Rattle.std.proofs.lemmas.Str.Parse.{not_in_digits, numerals_by_value, tells_digits}
+use Rattle.std.proofs.lemmas.Str.Pattern.{IsSplitOnceResult, split_after}
 use Rattle.words.specs.Words.{NumberText, PairText}
 
--- digits write one number
-number_one : {a b : ℕ} {bs : List ℕ} {m n : ℕ} → NumberText a bs m → NumberText b bs n → m ≡ n
-number_one t u = sym t.is ∙ u.is
-
--- a number that is small enough has so few bits
-narrow : {a : ℕ} {bs : List ℕ} {n : ℕ} (bits : ℕ) → NumberText a bs n → n < 2 ^ bits → NumberText bits bs n
-narrow bits t small = record { digits = t.digits; is = t.is; small = small }
-
-pub widen : {bs : List ℕ} {n : ℕ} (bits : ℕ) → bits ≤ 64 → NumberText bits bs n → NumberText 64 bs n
-widen bits few t = let more = pow_mono few in narrow 64 t (omega (arith, t.small))
+-- a number of fewer bits is one of 64
+widen : {a : ℕ} {bs : List ℕ} {n : ℕ} → a ≤ 64 → NumberText a bs n → NumberText 64 bs n
+widen few t = let more = pow_mono few in record { digits = t.digits; is = t.is; small = omega (arith, t.small) }
 
 -- what stands before and behind the first c
 same_cut : (c : ℕ) (xs ys us vs : List ℕ) → LacksByte c xs → LacksByte c us → xs ++ (c ∷ ys) ≡ us ++ (c ∷ vs) → (xs ≡ us) × (ys ≡ vs)
@@ -32,48 +24,28 @@ same_cut c (x ∷ xs) ys (u ∷ us) vs free free_too e =
 -- a pair around a byte that is no digit
 module _ {between a b : ℕ} {bs : List ℕ} {m n : ℕ} (other : IsInRange 48 57 between → ⊥) (t : PairText between a b bs m n) where
   digits_lack : (ds : List ℕ) → IsNumeral 10 ds → LacksByte between ds
-  digits_lack ds digits = λ i within e. other (subst (IsInRange 48 57) e (digit_at ds i digits.1 within))
-
-  pub pair_has : LacksByte between bs → ⊥
-  pair_has lacks =
-      let front = t.first_text in
-      let back = t.second_text in
-      lacks (length front) (omega (arith, ap length t.whole, length-append front (between ∷ back))) (ap (λ l. get_or l (length front) 0) t.whole ∙ get_or_at front between back 0 (length front) refl)
-
-  pair_parts : (first second : List ℕ) → LacksByte between first → bs ≡ first ++ (between ∷ second) → NumberText a first m × NumberText b second n
-  pair_parts first second lacks whole =
-      let same = same_cut between t.first_text t.second_text first second (digits_lack t.first_text t.first_is.digits) lacks (sym t.whole ∙ whole) in
-      (subst (λ l. NumberText a l m) same.0 t.first_is, subst (λ l. NumberText b l n) same.1 t.second_is)
+  digits_lack ds digits = not_in_digits (numerals_by_value (AllDigits 10) tells_digits) ds between digits.1 other
 
   -- a cut at the first such byte falls between the two numbers
-  pub pair_cut : (first second : Bor (List ℕ)) → IsSplitOnceResult between bs (Some (first, second)) → between < 128 → NumberText a first.now m × NumberText b second.now n
-  pair_cut first second cut ascii = let parts = split_parts between bs (Some (first, second)) cut ascii in pair_parts first.now second.now parts.1 parts.0
+  pub pair_cut : (r : Option (Bor (List ℕ) × Bor (List ℕ))) → IsSplitOnceResult between bs r → between < 128 → MatchOption r ⊥ (λ p. NumberText a p.0.now m × NumberText b p.1.now n)
+  pair_cut None cut ascii = split_after between bs t.first_text t.second_text None cut ascii t.whole (digits_lack t.first_text t.first_is.digits)
+  pair_cut (Some p) cut ascii =
+      let same = split_after between bs t.first_text t.second_text (Some p) cut ascii t.whole (digits_lack t.first_text t.first_is.digits) in
+      (rw same.0 t.first_is, rw same.1 t.second_is)
 
-  -- the text of a pair is that of no other
-  pub pair_one : {c d k l : ℕ} → PairText between c d bs k l → (m ≡ k) × (n ≡ l)
-  pair_one u =
-      let parts = pair_parts u.first_text u.second_text (digits_lack u.first_text u.first_is.digits) u.whole in
-      (number_one parts.0 u.first_is, number_one parts.1 u.second_is)
+  -- the text of a pair is that of no other, so what is read from it is as small
+  pub pair_small : {k l : ℕ} → PairText between 64 64 bs k l → (k < 2 ^ a) × (l < 2 ^ b)
+  pair_small {k} {l} u =
+      let same = same_cut between t.first_text t.second_text u.first_text u.second_text (digits_lack t.first_text t.first_is.digits) (digits_lack u.first_text u.first_is.digits) (sym t.whole ∙ u.whole) in
+      let first : m ≡ k = sym t.first_is.is ∙ ap (digits_value 10) same.0 ∙ u.first_is.is in
+      let second : n ≡ l = sym t.second_is.is ∙ ap (digits_value 10) same.1 ∙ u.second_is.is in
+      (rw (← first) t.first_is.small, rw (← second) t.second_is.small)
 
--- two numbers around the byte are a pair
-pub pair_joined : {between a b : ℕ} {bs : List ℕ} {m n : ℕ} (first second : Bor (List ℕ)) → IsSplitOnceResult between bs (Some (first, second)) → between < 128 → NumberText a first.now m → NumberText b second.now n → PairText between a b bs m n
-pair_joined {between} {bs = bs} first second cut ascii m_is n_is = record {
-  first_text = first.now;
-  second_text = second.now;
-  whole = (split_parts between bs (Some (first, second)) cut ascii).0;
-  first_is = m_is;
-  second_is = n_is;
+pub pair_widen : {between a b : ℕ} {bs : List ℕ} {m n : ℕ} → a ≤ 64 → b ≤ 64 → PairText between a b bs m n → PairText between 64 64 bs m n
+pair_widen few few_too t = record {
+  first_text = t.first_text;
+  second_text = t.second_text;
+  whole = t.whole;
+  first_is = widen few t.first_is;
+  second_is = widen few_too t.second_is;
 }
-
-module _ {between a b : ℕ} {bs : List ℕ} {m n : ℕ} (t : PairText between a b bs m n) where
-  pair_narrow : (c d : ℕ) → m < 2 ^ c → n < 2 ^ d → PairText between c d bs m n
-  pair_narrow c d small small_too = record {
-    first_text = t.first_text;
-    second_text = t.second_text;
-    whole = t.whole;
-    first_is = narrow c t.first_is small;
-    second_is = narrow d t.second_is small_too;
-  }
-
-  pub pair_widen : a ≤ 64 → b ≤ 64 → PairText between 64 64 bs m n
-  pair_widen few few_too = pair_narrow 64 64 (widen a few t.first_is).small (widen b few_too t.second_is).small

@@ -2,16 +2,14 @@
 ghost use Rattle.words.specs.Words.{TotalText, WorstText, ClassText, CellText};
 
 use crate::items::Item;
-use crate::numbers::{LIMIT_8, LIMIT_32, number, two_numbers};
+use crate::numbers::{number, two_numbers};
 use costs::values::{Class, Total, Widened, Worst};
 
 impl Item for Total {
     ghost text = { TotalText };
 
     fn read(piece: &str) -> Option<Total> {
-        let Some(minutes) = number(piece) else {
-            return None;
-        };
+        let minutes = number(piece)?;
         Some(Total { minutes })
     }
 }
@@ -20,16 +18,8 @@ impl Item for Worst {
     ghost text = { WorstText };
 
     fn read(piece: &str) -> Option<Worst> {
-        let Some(minutes) = number(piece) else {
-            return None;
-        };
-        if minutes < LIMIT_32 {
-            Some(Worst {
-                minutes: minutes as u32,
-            })
-        } else {
-            None
-        }
+        let minutes = u32::try_from(number(piece)?).ok()?;
+        Some(Worst { minutes })
     }
 }
 
@@ -38,17 +28,11 @@ impl Item for Class {
     ghost text = { ClassText };
 
     fn read(piece: &str) -> Option<Class> {
-        let Some((class, minutes)) = two_numbers(piece, ':') else {
-            return None;
-        };
-        if class < LIMIT_8 {
-            Some(Class {
-                class: class as u8,
-                minutes,
-            })
-        } else {
-            None
-        }
+        let (class, minutes) = two_numbers(piece, ':')?;
+        Some(Class {
+            class: u8::try_from(class).ok()?,
+            minutes,
+        })
     }
 }
 
@@ -60,9 +44,6 @@ impl<K: Item> Item for Widened<K> {
         if piece == "-" {
             return Some(Widened::Forbidden);
         }
-        let Some(cost) = K::read(piece) else {
-            return None;
-        };
-        Some(Widened::Allowed(cost))
+        K::read(piece).map(Widened::Allowed)
     }
 }

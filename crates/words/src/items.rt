@@ -2,7 +2,7 @@
 ghost use Rattle.std.specs.Prelude.{ℕ, List, MatchOption};
 ghost use Rattle.words.specs.Words.{NumberText, DutyText};
 
-use crate::numbers::{LIMIT_8, LIMIT_16, number, two_numbers};
+use crate::numbers::{number, two_numbers};
 use costs::values::Duty;
 
 pub trait Item: Copy {
@@ -17,17 +17,11 @@ impl Item for Duty {
     ghost text = { DutyText };
 
     fn read(piece: &str) -> Option<Duty> {
-        let Some((start, finish)) = two_numbers(piece, '-') else {
-            return None;
-        };
-        if start < LIMIT_16 && finish < LIMIT_16 {
-            Some(Duty {
-                start: start as u16,
-                finish: finish as u16,
-            })
-        } else {
-            None
-        }
+        let (start, finish) = two_numbers(piece, '-')?;
+        Some(Duty {
+            start: u16::try_from(start).ok()?,
+            finish: u16::try_from(finish).ok()?,
+        })
     }
 }
 
@@ -36,9 +30,6 @@ impl Item for u8 {
     ghost text = { NumberText 8 };
 
     fn read(piece: &str) -> Option<u8> {
-        let Some(n) = number(piece) else {
-            return None;
-        };
-        if n < LIMIT_8 { Some(n as u8) } else { None }
+        u8::try_from(number(piece)?).ok()
     }
 }

@@ -1,9 +1,9 @@
-use Rattle.std.proofs.Common.{arith}
-use Rattle.words.proofs.Digits.{pair_one, pair_widen}
+use Rattle.std.proofs.Common.{rules, arith}
+use Rattle.words.proofs.Digits.{pair_small, pair_widen}
 use Rattle.words.proofs.cells.ClassItem.read.Goals as goal
 
-pub returns-in_default : goal.returns-in_default
-returns-in_default c = λ x text. c.in_default.ensures x.class x.minutes (pair_widen text (omega arith) (omega arith))
+pub returns-in_err-class : goal.returns-in_err-class
+returns-in_err-class c = rw c.from_residual.ensures (λ x text. c.in_err-class.ensures x.class x.minutes (pair_widen (omega arith) (omega arith) text))
 
-pub returns-else-class-lt-LIMIT_8 : goal.returns-else-class-lt-LIMIT_8
-returns-else-class-lt-LIMIT_8 c = λ x text. let same = pair_one (λ digit. omega arith) text c.in-Some.ensures in omega (arith, text.first_is.small)
+pub returns-in_err-ok : goal.returns-in_err-ok
+returns-in_err-ok c = rw c.from_residual-in_err-ok.ensures (λ x text. let small = pair_small (λ digit. omega arith) text c.in_ok-class.ensures in search rules)

@@ -1,9 +1,12 @@
-use Rattle.std.proofs.Common.{arith}
-use Rattle.words.proofs.Digits.{pair_one, pair_widen}
+use Rattle.std.proofs.Common.{rules, arith}
+use Rattle.words.proofs.Digits.{pair_small, pair_widen}
 use Rattle.words.proofs.items.DutyItem.read.Goals as goal
 
-pub returns-in_default : goal.returns-in_default
-returns-in_default c = λ d text. c.in_default.ensures d.start d.finish (pair_widen text (omega arith) (omega arith))
+pub returns-in_err-start : goal.returns-in_err-start
+returns-in_err-start c = rw c.from_residual.ensures (λ d text. c.in_err-start.ensures d.start d.finish (pair_widen (omega arith) (omega arith) text))
 
-pub returns-else-start-lt-LIMIT_16 : goal.returns-else-start-lt-LIMIT_16
-returns-else-start-lt-LIMIT_16 c = λ d text. let same = pair_one (λ digit. omega arith) text c.in-Some.ensures in omega (arith, text.first_is.small, text.second_is.small, c.else-start-lt-LIMIT_16.either)
+pub returns-in_err-ok : goal.returns-in_err-ok
+returns-in_err-ok c = rw c.from_residual-in_err-ok.ensures (λ d text. let small = pair_small (λ digit. omega arith) text c.in_ok-start.ensures in search rules)
+
+pub returns-in_err-ok-2 : goal.returns-in_err-ok-2
+returns-in_err-ok-2 c = rw c.from_residual-in_err-ok-2.ensures (λ d text. let small = pair_small (λ digit. omega arith) text c.in_ok-start.ensures in search rules)
