@@ -11,7 +11,7 @@ use costs::values::Duty;
 use std::alloc::{AllocError, Global};
 use std::str::from_utf8;
 use words::cut::cut_words;
-use words::kinds::read_kind;
+use words::kinds::Kind;
 use words::lists::list_or;
 
 // The answer to a line; none to an empty line or a comment.
@@ -74,7 +74,7 @@ fn answer_price(
 ) -> Result<String, PriceFault>
     ensures { PriceAnswered (record { kind_word = kind.now; earlier_word = earlier.now; later_word = later.now; roster_word = roster.now }) result }
 {
-    let Some(kind) = read_kind(kind) else {
+    let Ok(kind) = kind.parse::<Kind>() else {
         return Err(PriceFault::NoKind);
     };
     let earlier = list_or::<Duty, PriceFault>(
@@ -116,7 +116,7 @@ fn answer_weigh(
 ) -> Result<String, WeighFault>
     ensures { WeighAnswered kind.now (record { size_word = size.now; cells_word = cells.now; roster_word = roster.now }) result }
 {
-    let Some(kind) = read_kind(kind) else {
+    let Ok(kind) = kind.parse::<Kind>() else {
         return Err(WeighFault::NoKind);
     };
     let price = weigh(heap, kind, size, cells, roster)?;

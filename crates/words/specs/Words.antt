@@ -13,6 +13,7 @@ use Rattle.costs.specs.declared.values.Widened.TheVariants.{Allowed, Forbidden}
 use Rattle.costs.specs.declared.values.Worst.{Worst as WorstCost}
 use Rattle.words.specs.declared.kinds.Kind.{Kind}
 use Rattle.words.specs.declared.kinds.Kind.TheVariants.{Total, Worst, Class}
+use Rattle.words.specs.declared.kinds.UnknownKind.{UnknownKind}
 use Rattle.words.specs.declared.lists.Unlisted.{Unlisted}
 use Rattle.words.specs.declared.lists.Unlisted.TheVariants.{NoItem, NoMemory}
 
@@ -35,6 +36,11 @@ abbrev pub kind_name : Kind → List ℕ
 kind_name Total = codes "total"
 kind_name Worst = codes "worst"
 kind_name Class = codes "class"
+
+-- what is read from a word: the kind that it names, or none where it names none
+abbrev pub KindRead : List ℕ → Result Kind UnknownKind → Type 0
+KindRead word (Ok k) = word ≡ kind_name k
+KindRead word (Err e) = (k : Kind) → word ≢ kind_name k
 
 -- decimal digits, one or more and nothing else, that write n, a number of so many bits
 pub record NumberText (bits : ℕ) (bs : List ℕ) (n : ℕ) : Type 0 where

@@ -1,21 +1,43 @@
 // The kinds by name.
-ghost use Rattle.std.specs.Prelude.{◌≡◌, MatchOption, ◌≢◌};
-ghost use Rattle.words.specs.Words.{kind_name};
+ghost use Rattle.std.specs.Prelude.{Some, codes};
+ghost use Rattle.words.specs.Words.{KindRead};
 
-#[derive(Clone, Copy)]
+use std::error::Error;
+use std::fmt;
+use std::str::FromStr;
+
+#[derive(Clone, Copy, Debug, PartialEq, Eq, Hash)]
 pub enum Kind {
     Total,
     Worst,
     Class,
 }
 
-pub fn read_kind(word: &str) -> Option<Kind>
-    ensures { MatchOption result ((k : Kind) → word.now ≢ kind_name k) (λ k. word.now ≡ kind_name k) }
-{
-    match word {
-        "total" => Some(Kind::Total),
-        "worst" => Some(Kind::Worst),
-        "class" => Some(Kind::Class),
-        _ => None,
+// A word that names no kind.
+#[derive(Clone, Copy, Debug, PartialEq, Eq, Hash)]
+pub struct UnknownKind;
+
+impl fmt::Display for UnknownKind {
+    ghost output = { λ _. Some (codes "expected the kind total, worst or class") };
+
+    fn fmt<W: fmt::Write>(&self, f: &mut fmt::Formatter<W>) -> fmt::Result {
+        f.write_str("expected the kind total, worst or class")
+    }
+}
+
+impl Error for UnknownKind {}
+
+impl FromStr for Kind {
+    type Err = UnknownKind;
+
+    ghost from_str_gives = { KindRead };
+
+    fn from_str(word: &str) -> Result<Kind, UnknownKind> {
+        match word {
+            "total" => Ok(Kind::Total),
+            "worst" => Ok(Kind::Worst),
+            "class" => Ok(Kind::Class),
+            _ => Err(UnknownKind),
+        }
     }
 }
