@@ -1,9 +1,12 @@
 -- The pieces of a word, and what they list. Assumes nothing.
-use Rattle.std.proofs.Common.{◌≡◌, ℕ, zero, suc, ◌+◌, ◌<◌, List, [], ◌∷◌, ◌++◌, map, length, get_or, take, Ok, Err, codes, Result, Vec, sym, refl, ap, ◌∙◌, subst, inr, arith, Bor}
-use Rattle.std.proofs.lemmas.List.{map-append, take_more}
+use Rattle.std.proofs.Common.{◌≡◌, ℕ, ◌+◌, ◌<◌, List, [], ◌∷◌, ◌++◌, map, length, get_or, take, Ok, Err, IfOk, codes, Result, Vec, vec_items, vec_len, subst, inr, arith, Bor}
+use Rattle.std.specs.Str.Iter.{LacksByte}
+use Rattle.std.specs.List.{join_with_byte, AllWithin}
+use Rattle.std.proofs.ByRecursion.{all_from_every, All-map}
+use Rattle.std.proofs.lemmas.List.{map_more, length-map}
 use Rattle.words.specs.declared.lists.Unlisted.{Unlisted}
 use Rattle.words.specs.declared.lists.Unlisted.TheVariants.{NoItem, NoMemory}
-use Rattle.words.specs.Words.{CutAtCommas, Texts, NoText, SomeText, PiecesRead, Listed}
+use Rattle.words.specs.Words.{CutAtCommas, Texts, PiecesRead, Listed}
 
 -- one piece more, with its item
 texts_push : {X : Type 0} (Text : List ℕ → X → Type 0) (pieces : List (List ℕ)) (xs : List X) (p : List ℕ) (x : X) → Texts Text pieces xs → Text p x → Texts Text (pieces ++ (p ∷ [])) (xs ++ (x ∷ []))
@@ -20,29 +23,20 @@ nowhere = record { ref_ptr = (0, 0); now = [] }
 abbrev pub behind : List (Bor (List ℕ)) → List (List ℕ)
 behind parts = map (λ x. x.now) parts
 
-get_or-behind : (parts : List (Bor (List ℕ))) (i : ℕ) (r : Bor (List ℕ)) → i < length parts → get_or (behind parts) i [] ≡ (get_or parts i r).now
-get_or-behind [] i r h = absurd (omega arith)
-get_or-behind (p ∷ parts) zero r h = refl
-get_or-behind (p ∷ parts) (suc i) r h = get_or-behind parts i r (omega arith)
-
 pub length-behind : (parts : List (Bor (List ℕ))) → length (behind parts) ≡ length parts
-length-behind [] = refl
-length-behind (p ∷ parts) = ap suc (length-behind parts)
+length-behind parts = length-map parts (λ x. x.now)
 
-module _ {X : Type 0} (Text : List ℕ → X → Type 0) (parts : List (Bor (List ℕ))) (i : ℕ) (within : i < length parts) where
-  -- a loop's step: the piece at i is the text of x
-  pub texts_more : (xs : List X) (x : X) → Texts Text (behind (take i parts)) xs → Text (get_or parts i nowhere).now x → Texts Text (behind (take (i + 1) parts)) (xs ++ (x ∷ []))
-  texts_more xs x sofar here =
-      subst (λ l. Texts Text l (xs ++ (x ∷ []))) (sym (ap behind (take_more parts i nowhere within) ∙ map-append (λ p. p.now) (take i parts) (get_or parts i nowhere ∷ [])))
-      (texts_push Text (behind (take i parts)) xs (get_or parts i nowhere).now x sofar here)
+-- a loop's step: the piece at i is the text of x
+pub texts_more : {X : Type 0} (Text : List ℕ → X → Type 0) (parts : List (Bor (List ℕ))) (i : ℕ) (xs : List X) (x : X) → i < length parts → Texts Text (behind (take i parts)) xs → Text (get_or parts i nowhere).now x → Texts Text (behind (take (i + 1) parts)) (xs ++ (x ∷ []))
+texts_more Text parts i xs x within sofar here = rw (map_more (λ (p : Bor (List ℕ)). p.now) parts i nowhere within) (texts_push Text (behind (take i parts)) xs (get_or parts i nowhere).now x sofar here)
 
-  -- the piece at i is the text of none
-  pub text_of_none : ((x : X) → Text (get_or parts i nowhere).now x → ⊥) → NoText Text (behind parts)
-  text_of_none none = (i, omega (arith, length-behind parts), λ x text. none x (subst (λ l. Text l x) (get_or-behind parts i nowhere within) text))
-
-  -- the piece at i is the text of some
-  pub text_of_some : (x : X) → Text (get_or parts i nowhere).now x → SomeText Text (behind parts)
-  text_of_some x text = (i, omega (arith, length-behind parts), x, subst (λ l. Text l x) (sym (get_or-behind parts i nowhere within)) text)
+-- what `split` says of the pieces that are collected, in one
+pub cut_at_commas : {Z E : Type 0} (word : List ℕ) (r : Result (Vec (Bor (List ℕ)) Z) E) → IfOk r (λ v. 0 < vec_len v) → IfOk r (λ v. word ≡ join_with_byte 44 (behind (vec_items v))) → IfOk r (λ v. AllWithin (λ x. LacksByte 44 x.now) (vec_items v) 0 (vec_len v)) → IfOk r (λ v. CutAtCommas word (behind (vec_items v)))
+cut_at_commas word (Ok v) some joined apart =
+    let items = vec_items v in
+    let free = all_from_every _ items (subst (AllWithin (λ x. LacksByte 44 x.now) items 0) v.ok.0 apart) in
+    record { some = omega (arith, some, v.ok.0, length-behind items); joined = joined; no_comma = All-map (LacksByte 44) (λ x. x.now) items free }
+cut_at_commas word (Err e) some joined apart = tt
 
 -- a word cut at its commas, and what its pieces give
 pub listed : {X A : Type 0} (Text : List ℕ → X → Type 0) (word : List ℕ) (pieces : List (List ℕ)) (r : Result (Vec X A) Unlisted) → (word ≡ codes "." → ⊥) → CutAtCommas word pieces → PiecesRead Text pieces r → Listed Text word r

@@ -1,14 +1,13 @@
 // Lists between commas.
-ghost use Rattle.std.specs.Prelude.{◌≡◌, ◌<◌, ◌⊎◌, map, IfOk, vec_len, MatchResult};
-ghost use Rattle.std.specs.Str.Iter.{LacksByte};
-ghost use Rattle.std.specs.List.{join_with_byte, AllWithin};
-ghost use Rattle.words.specs.Words.{PiecesRead, ListText, NoList, Listed, error_for};
+ghost use Rattle.std.specs.Prelude.{◌≡◌, ◌⊎◌, map, IfOk, MatchResult};
+ghost use Rattle.words.specs.declared.lists.Unlisted.TheVariants.{NoMemory};
+ghost use Rattle.words.specs.Words.{CutAtCommas, PiecesRead, ListText, NoList, Listed, error_for};
 
 use crate::items::Item;
-use std::alloc::{AllocError, Global};
+use std::alloc::{AllocError, AllocFailed, Global};
 
 // Why a word is no list.
-#[derive(Clone, Copy)]
+#[derive(Clone, Copy, Debug, PartialEq, Eq)]
 pub enum Unlisted {
     NoItem,
     NoMemory,
@@ -25,10 +24,24 @@ impl Unlisted {
     }
 }
 
+impl From<AllocError> for Unlisted {
+    ghost from_gives = { λ _ why. why ≡ NoMemory };
+
+    fn from(_error: AllocError) -> Unlisted {
+        Unlisted::NoMemory
+    }
+}
+
+impl<T: Drop> From<AllocFailed<T>> for Unlisted {
+    ghost from_gives = { λ _ why. why ≡ NoMemory };
+
+    fn from(_error: AllocFailed<T>) -> Unlisted {
+        Unlisted::NoMemory
+    }
+}
+
 fn pieces<'a>(heap: Global, word: &'a str) -> Result<Vec<&'a str>, AllocError>
-    ensures some { IfOk result (λ v. 0 < vec_len v) }
-    ensures joined { IfOk result (λ v. word.now ≡ join_with_byte 44 (map (λ x. x.now) v.items)) }
-    ensures apart { IfOk result (λ v. AllWithin (λ x. LacksByte 44 x.now) v.items 0 (vec_len v)) }
+    ensures { IfOk result (λ v. CutAtCommas word.now (map (λ x. x.now) v.items)) }
 {
     word.split(',').collect(heap)
 }
@@ -38,13 +51,7 @@ fn read_pieces<T: Item>(heap: Global, parts: &[&str]) -> Result<Vec<T>, Unlisted
 {
     let mut list = Vec::new(heap);
     for part in parts {
-        let Some(item) = T::read(part) else {
-            return Err(Unlisted::NoItem);
-        };
-        match list.push(item) {
-            Ok(()) => {}
-            Err(_) => return Err(Unlisted::NoMemory),
-        }
+        list.push(T::read(part).ok_or(Unlisted::NoItem)?)?;
     }
     Ok(list)
 }
@@ -56,10 +63,8 @@ pub fn read_list<T: Item>(heap: Global, word: &str) -> Result<Vec<T>, Unlisted>
     if word == "." {
         return Ok(Vec::new(heap));
     }
-    match pieces(heap, word) {
-        Ok(parts) => read_pieces(heap, parts.as_slice()),
-        Err(_) => Err(Unlisted::NoMemory),
-    }
+    let parts = pieces(heap, word)?;
+    read_pieces(heap, &parts)
 }
 
 // The same, with the caller's own errors for a word that is no list and for want of memory.
@@ -71,8 +76,5 @@ pub fn list_or<T: Item, E: Copy>(
 ) -> Result<Vec<T>, E>
     ensures { MatchResult result (λ v. ListText T.text word.now v.items) (λ e. ((e ≡ no_list) × NoList T.text word.now) ⊎ (e ≡ no_memory)) }
 {
-    match read_list(heap, word) {
-        Ok(list) => Ok(list),
-        Err(why) => Err(why.error(no_list, no_memory)),
-    }
+    read_list(heap, word).map_err(|why| why.error(no_list, no_memory))
 }
