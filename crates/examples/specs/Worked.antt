@@ -39,14 +39,14 @@ threes = two_rows (total 3) (total 3) (total 3) (total 3)
 
 -- a step on both rows and both columns
 abbrev pub step_by_three : Step Total
-step_by_three = record { rows = 3; columns = 3; amount = total 3 }
+step_by_three = record { sets = record { rows = 3; columns = 3 }; amount = total 3 }
 
 -- rows 0 5 and 4 8 in total, and two steps: on row 1 and both columns, then on both rows and column 1
 abbrev pub eights : List (Widened Total)
 eights = two_rows (total 0) (total 5) (total 4) (total 8)
 
 abbrev pub settling : List (Step Total)
-settling = record { rows = 2; columns = 3; amount = total 4 } ∷ record { rows = 3; columns = 2; amount = total 4 } ∷ []
+settling = record { sets = record { rows = 2; columns = 3 }; amount = total 4 } ∷ record { sets = record { rows = 3; columns = 2 }; amount = total 4 } ∷ []
 
 pub record Worked : Type 0 where
   -- 1:9 composed with 2:1 is 2:1

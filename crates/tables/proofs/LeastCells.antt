@@ -1,98 +1,105 @@
--- The least cell, found place by place, column after column. Assumes nothing.
-use Rattle.std.proofs.Common.{◌≡◌, ℕ, ◌+◌, ◌*◌, ◌/◌, ◌%◌, ◌<◌, ◌≤◌, Bool, true, false, cond, ◌&&◌, Some, None, Option, sym, refl, ap, ◌∙◌, subst, ⊎_elim, arith, MatchOption}
-use mathlib.Core.Bool.{false≢true}
-use Rattle.std.proofs.lemmas.Nat.{mul-add-lt, div-mul-add, mod-mul-add, div_below, mod_below}
-use Rattle.std.proofs.lemmas.Bool.{cases_lt}
+-- The least cell, found column after column, and in each of them row after row. Assumes nothing.
+use Rattle.std.proofs.Common.{◌≡◌, ℕ, ◌+◌, ◌<◌, ◌≤◌, Bool, true, false, cond, ◌&&◌, Some, None, Option, sym, refl, ◌∙◌, ⊎_elim, arith, below_more, MatchOption}
+use Rattle.std.proofs.lemmas.Bool.{false≢true}
 use Rattle.costs.specs.Kinds.{Operations, Laws}
 use Rattle.tables.specs.LeastCells.{NoneInside, CellInside, LeastInside, lesser, with_cell}
 use Rattle.tables.specs.Steps.{in_set}
 use Rattle.tables.specs.declared.values.Least.{Least}
 
+module _ (n rows columns : ℕ) where
+  -- P holds of each row and column of both sets, up to a row of a column
+  pub record Seen (P : ℕ → ℕ → Type 0) (column row : ℕ) : Type 0 where
+    pub columns_before : (r c : ℕ) → r < n → c < column → in_set rows r ≡ true → in_set columns c ≡ true → P r c
+    pub rows_before : (r : ℕ) → r < row → in_set rows r ≡ true → in_set columns column ≡ true → P r column
+
+  seen_none : (P : ℕ → ℕ → Type 0) → Seen P 0 0
+  seen_none P = record { columns_before = λ r c _ none. absurd (omega arith); rows_before = λ r none. absurd (omega arith) }
+
+  seen_row : (P : ℕ → ℕ → Type 0) (column row : ℕ) → Seen P column row → (in_set rows row ≡ true → in_set columns column ≡ true → P row column) → Seen P column (row + 1)
+  seen_row P column row seen here = record {
+    columns_before = seen.columns_before;
+    rows_before = below_more (λ r. in_set rows r ≡ true → in_set columns column ≡ true → P r column) row seen.rows_before here;
+  }
+
+  seen_column : (P : ℕ → ℕ → Type 0) (column row : ℕ) → n ≤ row → Seen P column row → Seen P (column + 1) 0
+  seen_column P column row all seen = record {
+    columns_before = λ r c there. below_more (λ x. in_set rows r ≡ true → in_set columns x ≡ true → P r x) column (λ x lt. seen.columns_before r x there lt) (seen.rows_before r (omega arith)) c;
+    rows_before = λ r none. absurd (omega arith);
+  }
+
 module _ {C : Type 0} (o : Operations C) (n : ℕ) (t : ℕ → ℕ → C) (rows columns : ℕ) where
-  -- of every place below p in both sets
-  abbrev Seen : (ℕ → Type 0) → ℕ → Type 0
-  Seen P p = (k : ℕ) → k < p → in_set rows (k % n) ≡ true → in_set columns (k / n) ≡ true → P k
-
-  abbrev cell_of : ℕ → C
-  cell_of k = t (k % n) (k / n)
-
-  pub record Found (p : ℕ) (least : Least C) : Type 0 where
+  pub record Found (column row : ℕ) (least : Least C) : Type 0 where
     pub inside : CellInside n t rows columns least
-    pub at_most_seen : Seen (λ k. o.at_most least.amount (cell_of k) ≡ true) p
+    pub at_most_seen : Seen n rows columns (λ r c. o.at_most least.amount (t r c) ≡ true) column row
 
-  -- what is known once the places below p are seen
-  abbrev pub Sofar : ℕ → Option (Least C) → Type 0
-  Sofar p None = Seen (λ k. ⊥) p
-  Sofar p (Some least) = Found p least
+  -- what is known up to a row of a column
+  abbrev pub Sofar : ℕ → ℕ → Option (Least C) → Type 0
+  Sofar column row None = Seen n rows columns (λ _ _. ⊥) column row
+  Sofar column row (Some least) = Found column row least
 
-  pub sofar_none : Sofar 0 None
-  sofar_none = λ k lt i j. omega arith
+  pub sofar_none : Sofar 0 0 None
+  sofar_none = seen_none n rows columns (λ _ _. ⊥)
 
-  -- the place of a row and a column
-  seen_all : (P : ℕ → ℕ → Type 0) → Seen (λ k. P (k % n) (k / n)) (n * n) → (r c : ℕ) → r < n → c < n → in_set rows r ≡ true → in_set columns c ≡ true → P r c
-  seen_all P seen r c row column i j =
-      let k = c * n + r in
-      let row_is : k % n ≡ r = mod-mul-add c n r row in
-      let column_is : k / n ≡ c = div-mul-add c n r row in
-      subst (λ x. P x c) row_is
-      (subst (λ y. P (k % n) y) column_is (seen k (mul-add-lt c n r n column row) (ap (in_set rows) row_is ∙ i) (ap (in_set columns) column_is ∙ j)))
-
-  pub sofar_all : (p : ℕ) → n * n ≤ p → (r : Option (Least C)) → Sofar p r → MatchOption r (NoneInside n rows columns) (LeastInside o n t rows columns)
-  sofar_all p all None none = seen_all (λ r c. ⊥) (λ k lt. none k (omega arith))
-  sofar_all p all (Some least) found = record {
+  -- one column more
+  pub sofar_column : (column row : ℕ) → n ≤ row → (least : Option (Least C)) → Sofar column row least → Sofar (column + 1) 0 least
+  sofar_column column row all None none = seen_column n rows columns (λ _ _. ⊥) column row all none
+  sofar_column column row all (Some least) found = record {
     inside = found.inside;
-    at_most_all = seen_all (λ r c. o.at_most least.amount (t r c) ≡ true) (λ k lt. found.at_most_seen k (omega arith));
+    at_most_seen = seen_column n rows columns (λ r c. o.at_most least.amount (t r c) ≡ true) column row all found.at_most_seen;
+  }
+
+  pub sofar_all : (column row : ℕ) → n ≤ column → (least : Option (Least C)) → Sofar column row least → MatchOption least (NoneInside n rows columns) (LeastInside o n t rows columns)
+  sofar_all column row all None none = λ r c row_there column_there. none.columns_before r c row_there (omega arith)
+  sofar_all column row all (Some least) found = record {
+    inside = found.inside;
+    at_most_all = λ r c row_there column_there. found.at_most_seen.columns_before r c row_there (omega arith);
   }
 
 module _ {C : Type 0} {o : Operations C} (laws : Laws o) (n : ℕ) (t : ℕ → ℕ → C) (rows columns : ℕ) where
-  -- one place more
-  module _ (p : ℕ) (there : p < n * n) where
-    seen_more : (P : ℕ → Type 0) → Seen o n t rows columns P p → (in_set rows (p % n) ≡ true → in_set columns (p / n) ≡ true → P p) → Seen o n t rows columns P (p + 1)
-    seen_more P old here k lt i j =
-        ⊎_elim
-        (λ before. old k before i j)
-        (λ at. let is : p ≡ k = omega arith in subst P is (here (ap (λ x. in_set rows (x % n)) is ∙ i) (ap (λ x. in_set columns (x / n)) is ∙ j)))
-        (cases_lt k p)
-
-    found_kept : (least : Least C) → Found o n t rows columns p least → (in_set rows (p % n) ≡ true → in_set columns (p / n) ≡ true → o.at_most least.amount (t (p % n) (p / n)) ≡ true) → Found o n t rows columns (p + 1) least
-    found_kept least found here = record {
-      inside = found.inside;
-      at_most_seen = seen_more (λ k. o.at_most least.amount (t (k % n) (k / n)) ≡ true) found.at_most_seen here;
-    }
+  -- one row more
+  module _ (column row : ℕ) (column_there : column < n) (row_there : row < n) where
+    abbrev In : Type 0
+    In = (in_set rows row ≡ true) × (in_set columns column ≡ true)
 
     abbrev cell : Least C
-    cell = record { amount = t (p % n) (p / n); row = p % n; column = p / n }
+    cell = record { amount = t row column; row = row; column = column }
 
-    found_new : in_set rows (p % n) ≡ true → in_set columns (p / n) ≡ true → Seen o n t rows columns (λ k. o.at_most (t (p % n) (p / n)) (t (k % n) (k / n)) ≡ true) p → Found o n t rows columns (p + 1) cell
-    found_new i j old =
-        let some : 0 < n = ⊎_elim (λ yes_some. yes_some) (λ none. absurd (no_place none)) (cases_lt 0 n) in
-        record {
-          inside = record { row_there = mod_below p n some; column_there = div_below p n n some there; in_rows = i; in_columns = j; amount_is = refl };
-          at_most_seen = seen_more (λ k. o.at_most (t (p % n) (p / n)) (t (k % n) (k / n)) ≡ true) old (λ _ _. laws.at_most_reflexive _);
-        }
-      where
-        no_place : n ≤ 0 → ⊥
-        no_place none = let zero_side : n ≡ 0 = omega arith in let gone : p < 0 * 0 = subst (λ m. p < m * m) zero_side there in omega arith
+    found_kept : (least : Least C) → Found o n t rows columns column row least → (In → o.at_most least.amount (t row column) ≡ true) → Found o n t rows columns column (row + 1) least
+    found_kept least found here = record {
+      inside = found.inside;
+      at_most_seen = seen_row n rows columns (λ r c. o.at_most least.amount (t r c) ≡ true) column row found.at_most_seen (λ i j. here (i, j));
+    }
 
-    take_lesser : (least : Least C) (b : Bool) → o.at_most least.amount (t (p % n) (p / n)) ≡ b → in_set rows (p % n) ≡ true → in_set columns (p / n) ≡ true → Found o n t rows columns p least → Sofar o n t rows columns (p + 1) (cond b (Some least) (Some cell))
-    take_lesser least true e i j found = found_kept least found (λ _ _. e)
-    take_lesser least false e i j found =
-        let lower : o.at_most (t (p % n) (p / n)) least.amount ≡ true = ⊎_elim (λ above. absurd (false≢true (sym e ∙ above))) (λ below. below) (laws.at_most_total least.amount (t (p % n) (p / n))) in
-        found_new i j (λ k lt i' j'. laws.at_most_transitive _ least.amount _ lower (found.at_most_seen k lt i' j'))
+    found_new : In → Seen n rows columns (λ r c. o.at_most (t row column) (t r c) ≡ true) column row → Found o n t rows columns column (row + 1) cell
+    found_new both old = record {
+      inside = record { row_there = row_there; column_there = column_there; in_rows = both.0; in_columns = both.1; amount_is = refl };
+      at_most_seen = seen_row n rows columns (λ r c. o.at_most (t row column) (t r c) ≡ true) column row old (λ _ _. laws.at_most_reflexive _);
+    }
 
-    sofar_inside : (least : Option (Least C)) → in_set rows (p % n) ≡ true → in_set columns (p / n) ≡ true → Sofar o n t rows columns p least → Sofar o n t rows columns (p + 1) (lesser o least cell)
-    sofar_inside None i j none = found_new i j (λ k lt i' j'. absurd (none k lt i' j'))
-    sofar_inside (Some least) i j found = take_lesser least (o.at_most least.amount (t (p % n) (p / n))) refl i j found
+    take_lesser : (least : Least C) (b : Bool) → o.at_most least.amount (t row column) ≡ b → In → Found o n t rows columns column row least → Sofar o n t rows columns column (row + 1) (cond b (Some least) (Some cell))
+    take_lesser least true e both found = found_kept least found (λ _. e)
+    take_lesser least false e both found =
+        let lower : o.at_most (t row column) least.amount ≡ true = ⊎_elim (λ above. absurd (false≢true (sym e ∙ above))) (λ below. below) (laws.at_most_total least.amount (t row column)) in
+        found_new both (record {
+          columns_before = λ r c in_table lt i j. laws.at_most_transitive _ least.amount _ lower (found.at_most_seen.columns_before r c in_table lt i j);
+          rows_before = λ r lt i j. laws.at_most_transitive _ least.amount _ lower (found.at_most_seen.rows_before r lt i j);
+        })
 
-    sofar_outside : (least : Option (Least C)) → (in_set rows (p % n) ≡ true → in_set columns (p / n) ≡ true → ⊥) → Sofar o n t rows columns p least → Sofar o n t rows columns (p + 1) least
-    sofar_outside None out none = seen_more (λ k. ⊥) none out
-    sofar_outside (Some least) out found = found_kept least found (λ i j. absurd (out i j))
+    sofar_inside : (least : Option (Least C)) → In → Sofar o n t rows columns column row least → Sofar o n t rows columns column (row + 1) (lesser o least cell)
+    sofar_inside None both none = found_new both (record {
+      columns_before = λ r c in_table lt i j. absurd (none.columns_before r c in_table lt i j);
+      rows_before = λ r lt i j. absurd (none.rows_before r lt i j);
+    })
+    sofar_inside (Some least) both found = take_lesser least (o.at_most least.amount (t row column)) refl both found
 
-    by_sets : (i j : Bool) (least : Option (Least C)) → in_set rows (p % n) ≡ i → in_set columns (p / n) ≡ j → Sofar o n t rows columns p least → Sofar o n t rows columns (p + 1) (cond (i && j) (lesser o least cell) least)
-    by_sets true true least i j old = sofar_inside least i j old
-    by_sets true false least i j old = sofar_outside least (λ _ in_column. false≢true (sym j ∙ in_column)) old
-    by_sets false true least i j old = sofar_outside least (λ in_row _. false≢true (sym i ∙ in_row)) old
-    by_sets false false least i j old = sofar_outside least (λ in_row _. false≢true (sym i ∙ in_row)) old
+    sofar_outside : (least : Option (Least C)) → (In → ⊥) → Sofar o n t rows columns column row least → Sofar o n t rows columns column (row + 1) least
+    sofar_outside None out none = seen_row n rows columns (λ _ _. ⊥) column row none (λ i j. out (i, j))
+    sofar_outside (Some least) out found = found_kept least found (λ both. absurd (out both))
 
-    pub sofar_more : (least : Option (Least C)) → Sofar o n t rows columns p least → Sofar o n t rows columns (p + 1) (with_cell o rows columns least cell)
-    sofar_more least old = by_sets (in_set rows (p % n)) (in_set columns (p / n)) least refl refl old
+    by_sets : (i j : Bool) (least : Option (Least C)) → in_set rows row ≡ i → in_set columns column ≡ j → Sofar o n t rows columns column row least → Sofar o n t rows columns column (row + 1) (cond (i && j) (lesser o least cell) least)
+    by_sets true true least i j old = sofar_inside least (i, j) old
+    by_sets true false least i j old = sofar_outside least (λ both. false≢true (sym j ∙ both.1)) old
+    by_sets false j least i is old = sofar_outside least (λ both. false≢true (sym i ∙ both.0)) old
+
+    pub sofar_row : (least : Option (Least C)) → Sofar o n t rows columns column row least → Sofar o n t rows columns column (row + 1) (with_cell o rows columns least cell)
+    sofar_row least old = by_sets (in_set rows row) (in_set columns column) least refl refl old

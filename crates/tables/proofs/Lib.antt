@@ -4,6 +4,5 @@ pub mod LeastCells
 pub mod Lowering
 pub mod Orders
 pub mod Seats
-pub mod Sets
 pub mod Stepping
 pub mod Worths

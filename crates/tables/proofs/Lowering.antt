@@ -92,35 +92,35 @@ module _ {C : Type 0} {o : Operations C} (laws : Laws o) (a : C) where
 
 module _ {C : Type 0} {o : Operations C} (laws : Laws o) (n : ℕ) (s : Step C) (t u : ℕ → ℕ → C) where
   abbrev I : ℕ → Bool
-  I r = in_set s.rows r
+  I r = in_set s.sets.rows r
 
   abbrev J : ℕ → Bool
-  J c = in_set s.columns c
+  J c = in_set s.sets.columns c
 
   abbrev residue : ℕ → List ℕ → C
   residue r [] = o.empty
   residue r (c ∷ cs) = o.compose (left laws s.amount (I r) (J c) (t r c)) (residue (suc r) cs)
 
-  cost_before : (admissible : Admissible o n t s) (r : ℕ) (cs : List ℕ) → r + length cs ≤ n → AllByRecursion (λ c. c < n) cs → composed o (chosen_from t r cs) ≡ o.compose (times o (inside s.rows s.columns r cs) s.amount) (residue r cs)
+  cost_before : (admissible : Admissible o n t s) (r : ℕ) (cs : List ℕ) → r + length cs ≤ n → AllByRecursion (λ c. c < n) cs → composed o (chosen_from t r cs) ≡ o.compose (times o (inside s.sets.rows s.sets.columns r cs) s.amount) (residue r cs)
   cost_before admissible r [] within there = sym (laws.empty_neutral o.empty)
   cost_before admissible r (c ∷ cs) within there =
       ap (o.compose (t r c)) (cost_before admissible (suc r) cs (omega arith) there.1)
-      ∙ row_before laws s.amount (I r) (J c) (t r c) (inside s.rows s.columns (suc r) cs) (residue (suc r) cs) (λ i j. admissible.amount_fits r c (omega arith) there.0 i j)
+      ∙ row_before laws s.amount (I r) (J c) (t r c) (inside s.sets.rows s.sets.columns (suc r) cs) (residue (suc r) cs) (λ i j. admissible.amount_fits r c (omega arith) there.0 i j)
 
-  cost_after : ((r c : ℕ) → r < n → c < n → u r c ≡ changed o s.amount (I r) (J c) (t r c)) → (r : ℕ) (cs : List ℕ) → r + length cs ≤ n → AllByRecursion (λ c. c < n) cs → composed o (chosen_from u r cs) ≡ o.compose (times o (outside s.rows s.columns r cs) s.amount) (residue r cs)
+  cost_after : ((r c : ℕ) → r < n → c < n → u r c ≡ changed o s.amount (I r) (J c) (t r c)) → (r : ℕ) (cs : List ℕ) → r + length cs ≤ n → AllByRecursion (λ c. c < n) cs → composed o (chosen_from u r cs) ≡ o.compose (times o (outside s.sets.rows s.sets.columns r cs) s.amount) (residue r cs)
   cost_after change r [] within there = sym (laws.empty_neutral o.empty)
   cost_after change r (c ∷ cs) within there =
       ap₂ o.compose (change r c (omega arith) there.0) (cost_after change (suc r) cs (omega arith) there.1)
-      ∙ row_after laws s.amount (I r) (J c) (t r c) (outside s.rows s.columns (suc r) cs) (residue (suc r) cs)
+      ∙ row_after laws s.amount (I r) (J c) (t r c) (outside s.sets.rows s.sets.columns (suc r) cs) (residue (suc r) cs)
 
   -- the cost before is the amount, as often as the excess says, composed with the cost after
   pub lowered : Admissible o n t s → ((r c : ℕ) → r < n → c < n → u r c ≡ changed o s.amount (I r) (J c) (t r c)) → (columns : List ℕ) → Roster n columns → roster_cost o t columns ≡ o.compose (taken o n s) (roster_cost o u columns)
   lowered admissible change columns roster =
-      let p = inside s.rows s.columns 0 columns in
-      let q = outside s.rows s.columns 0 columns in
+      let p = inside s.sets.rows s.sets.columns 0 columns in
+      let q = outside s.sets.rows s.sets.columns 0 columns in
       let a = s.amount in
       let within : 0 + length columns ≤ n = omega (arith, roster.every_row) in
-      let count : p ≡ excess n s + q = more_inside s.rows s.columns n columns roster admissible.rows_there admissible.columns_there (omega (arith, admissible.some_excess)) in
+      let count : p ≡ excess n s + q = more_inside s.sets.rows s.sets.columns n columns roster admissible.rows_there admissible.columns_there (omega (arith, admissible.some_excess)) in
       cost_before admissible 0 columns within roster.column_there
       ∙ ap (λ k. o.compose (times o k a) (residue 0 columns)) count
       ∙ ap (λ x. o.compose x (residue 0 columns)) (times_add laws (excess n s) q a)

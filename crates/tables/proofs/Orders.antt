@@ -5,7 +5,7 @@ use Rattle.costs.specs.Kinds.{Operations, Laws, composed}
 use Rattle.tables.specs.Steps.{Absorbed}
 
 module _ {C : Type 0} {o : Operations C} (laws : Laws o) where
-  empty_right : (a : C) → o.compose a o.empty ≡ a
+  pub empty_right : (a : C) → o.compose a o.empty ≡ a
   empty_right a = laws.compose_commutes a o.empty ∙ laws.empty_neutral a
 
   -- what is composed with a cost never lowers it

@@ -1,10 +1,9 @@
 -- The cells after a step, place by place, and what a list of steps does. Assumes nothing.
-use Rattle.std.proofs.Common.{◌≡◌, ℕ, zero, suc, ◌+◌, ◌*◌, ◌/◌, ◌%◌, ◌<◌, ◌≤◌, Bool, true, false, cond, ltb, List, [], ◌∷◌, ◌++◌, map, length, get_or, take, set, IfNone, Some, None, Option, sym, refl, ap, ◌∙◌, subst, ap₂, ⊎_elim, arith, MatchOption}
+use Rattle.std.proofs.Common.{◌≡◌, ℕ, zero, suc, ◌+◌, ◌*◌, ◌/◌, ◌%◌, ◌<◌, ◌≤◌, Bool, true, false, cond, ltb, List, [], ◌∷◌, ◌++◌, map, length, get_or, take, IfNone, ◌⊎◌, Some, None, Option, sym, refl, ap, ◌∙◌, subst, ap₂, ⊎_elim, arith, MatchOption}
 use Rattle.std.specs.List.{AllByRecursion}
 use Rattle.std.proofs.lemmas.Nat.{mul-add-lt, div-mul-add, mod-mul-add}
-use Rattle.std.proofs.lemmas.List.{get_or_past, get_or_read, get_or-set_other, get_or-set_same, length-set, map_more, same_lists}
-use Rattle.std.proofs.lemmas.Bool.{cases_eq, cases_lt, le-ltb, lt-ltb}
-use Rattle.std.proofs.lemmas.Bool.Decides.{nat_tests}
+use Rattle.std.proofs.lemmas.List.{get_or_default, get_or_past, map_more, same_lists}
+use Rattle.std.proofs.lemmas.Bool.{cases_lt, le-ltb, lt-ltb}
 use Rattle.costs.specs.Kinds.{Operations, Laws, composed}
 use Rattle.costs.specs.Wide.{widened}
 use Rattle.costs.specs.declared.values.Widened.{Widened}
@@ -24,7 +23,7 @@ module _ {C : Type 0} (o : Operations C) (n : ℕ) where
   length_from s place [] = refl
   length_from s place (b ∷ cells) = ap suc (length_from s (suc place) cells)
 
-  pub length-stepped : (s : Step C) (cells : List C) → length (stepped o n s cells) ≡ length cells
+  length-stepped : (s : Step C) (cells : List C) → length (stepped o n s cells) ≡ length cells
   length-stepped s cells = length_from s 0 cells
 
   get_or-from : (s : Step C) (place : ℕ) (cells : List C) (k m : ℕ) (d : C) → place + k ≡ m → k < length cells → get_or (stepped_from o n s place cells) k d ≡ changed_at o n s m (get_or cells k d)
@@ -36,25 +35,43 @@ module _ {C : Type 0} (o : Operations C) (n : ℕ) where
   get_or-stepped : (s : Step C) (cells : List C) (k : ℕ) (d : C) → k < length cells → get_or (stepped o n s cells) k d ≡ changed_at o n s k (get_or cells k d)
   get_or-stepped s cells k d within = get_or-from s 0 cells k k d (omega arith) within
 
+  -- a place in surplus
+  changed_past : (s : Step C) (place : ℕ) (b : C) → n * n ≤ place → changed_at o n s place b ≡ b
+  changed_past s place b past = ap (λ t. cond t (changed o s.amount (in_set s.sets.rows (place / n)) (in_set s.sets.columns (place % n)) b) b) (le-ltb place (n * n) past)
+
+  -- a step under way: the places before this one are done, and all others are as they were
+  pub record Partway (s : Step C) (before : List C) (place : ℕ) (cells : List C) : Type 0 where
+    pub done : (k : ℕ) → k < place → get_or cells k o.empty ≡ changed_at o n s k (get_or before k o.empty)
+    pub waiting : (k : ℕ) → place ≤ k → get_or cells k o.empty ≡ get_or before k o.empty
+
+  pub partway_all : (s : Step C) (before : List C) (place : ℕ) (cells : List C) → length cells ≡ length before → (length before ≤ place) ⊎ (n * n ≤ place) → Partway s before place cells → cells ≡ stepped o n s before
+  partway_all s before place cells whole end sofar =
+      same_lists cells (stepped o n s before) (whole ∙ sym (length-stepped s before)) (λ k d within.
+      let there : k < length before = omega arith in
+      get_or_default cells k d o.empty within ∙ each k there ∙ sym (get_or-stepped s before k o.empty there) ∙ get_or_default (stepped o n s before) k o.empty d (omega (arith, length-stepped s before)))
+    where
+      each : (k : ℕ) → k < length before → get_or cells k o.empty ≡ changed_at o n s k (get_or before k o.empty)
+      each k there = ⊎_elim (λ lt. sofar.done k lt) (λ past. sofar.waiting k past ∙ sym (changed_past s k (get_or before k o.empty) (omega arith))) (cases_lt k place)
+
   -- a place that is not in surplus
-  pub changed_there : (s : Step C) (place : ℕ) (b : C) → place < n * n → changed_at o n s place b ≡ changed o s.amount (in_set s.rows (place / n)) (in_set s.columns (place % n)) b
-  changed_there s place b there = ap (λ t. cond t (changed o s.amount (in_set s.rows (place / n)) (in_set s.columns (place % n)) b) b) (lt-ltb place (n * n) there)
+  changed_there : (s : Step C) (place : ℕ) (b : C) → place < n * n → changed_at o n s place b ≡ changed o s.amount (in_set s.sets.rows (place / n)) (in_set s.sets.columns (place % n)) b
+  changed_there s place b there = ap (λ t. cond t (changed o s.amount (in_set s.sets.rows (place / n)) (in_set s.sets.columns (place % n)) b) b) (lt-ltb place (n * n) there)
 
   -- the same by row and column
-  pub grid-stepped : (s : Step C) (cells : List C) → Whole n cells → (r c : ℕ) → r < n → c < n → grid o n (stepped o n s cells) r c ≡ changed o s.amount (in_set s.rows r) (in_set s.columns c) (grid o n cells r c)
+  grid-stepped : (s : Step C) (cells : List C) → Whole n cells → (r c : ℕ) → r < n → c < n → grid o n (stepped o n s cells) r c ≡ changed o s.amount (in_set s.sets.rows r) (in_set s.sets.columns c) (grid o n cells r c)
   grid-stepped s cells whole r c row column =
       let place = r * n + c in
       let there : place < n * n = mul-add-lt r n c n row column in
       let b = get_or cells place o.empty in
       get_or-stepped s cells place o.empty (omega arith)
       ∙ changed_there s place b there
-      ∙ ap₂ (λ x y. changed o s.amount (in_set s.rows x) (in_set s.columns y) b) (div-mul-add r n c column) (mod-mul-add r n c column)
+      ∙ ap₂ (λ x y. changed o s.amount (in_set s.sets.rows x) (in_set s.sets.columns y) b) (div-mul-add r n c column) (mod-mul-add r n c column)
 
   -- cells in surplus stay
   surplus_stays : (s : Step C) (cells : List C) (k : ℕ) (d : C) → n * n ≤ k → get_or (stepped o n s cells) k d ≡ get_or cells k d
   surplus_stays s cells k d past =
       ⊎_elim
-      (λ within. get_or-stepped s cells k d within ∙ ap (λ t. cond t (changed o s.amount (in_set s.rows (k / n)) (in_set s.columns (k % n)) (get_or cells k d)) (get_or cells k d)) (le-ltb k (n * n) past))
+      (λ within. get_or-stepped s cells k d within ∙ changed_past s k (get_or cells k d) past)
       (λ none. get_or_past (stepped o n s cells) k d (omega (arith, length-stepped s cells)) ∙ sym (get_or_past cells k d none))
       (cases_lt k (length cells))
 
@@ -117,7 +134,7 @@ module _ {C : Type 0} (o : Operations C) (n : ℕ) where
 
   kept_from : (s : Step C) (place : ℕ) (cells : List (Widened C)) → map is_forbidden (stepped_from (widened o) n (wide s) place cells) ≡ map is_forbidden cells
   kept_from s place [] = refl
-  kept_from s place (b ∷ cells) = ap₂ ◌∷◌ (at_forbidden s.amount (in_set s.rows (place / n)) (in_set s.columns (place % n)) (ltb place (n * n)) b) (kept_from s (suc place) cells)
+  kept_from s place (b ∷ cells) = ap₂ ◌∷◌ (at_forbidden s.amount (in_set s.sets.rows (place / n)) (in_set s.sets.columns (place % n)) (ltb place (n * n)) b) (kept_from s (suc place) cells)
 
   -- a step by an allowed amount forbids nothing and allows nothing
   pub forbidden_kept : (s : Step C) (cells : List (Widened C)) → map is_forbidden (stepped (widened o) n (wide s) cells) ≡ map is_forbidden cells
@@ -156,44 +173,3 @@ module _ {C : Type 0} {o : Operations C} (laws : Laws o) (n : ℕ) where
   pub none_settled : (cells : List (Widened C)) (z : C) (columns : List ℕ) (r : Option ℕ) → MatchOption r (AllAbsorbed (widened o) (grid (widened o) n cells) (Allowed z) columns) (FirstNotAbsorbed (widened o) (grid (widened o) n cells) (Allowed z) columns) → IfNone r (SettledWhereReached o n cells z columns)
   none_settled cells z columns None absorbed = settled cells z columns absorbed
   none_settled cells z columns (Some row) found = tt
-
--- A step under way, whatever the order of its visits: the places that are done hold what the step makes of them, and all others what they held.
-module _ {C : Type 0} (o : Operations C) (n : ℕ) (s : Step C) (before : List C) where
-  abbrev held : ℕ → C → Bool → C
-  held k d done = cond done (changed_at o n s k (get_or before k d)) (get_or before k d)
-
-  pub record Partway (done : ℕ → Bool) (cells : List C) : Type 0 where
-    pub same_length : length cells ≡ length before
-    pub places : (k : ℕ) (d : C) → k < length before → get_or cells k d ≡ held k d (done k)
-
-  -- a place that is not done, or in surplus, is as it was
-  unmoved : (k : ℕ) (d : C) (done : Bool) → (k < n * n → done ≡ false) → get_or before k d ≡ held k d done
-  unmoved k d done none = grind (arith, nat_tests, none)
-
-  pub partway_none : (done : ℕ → Bool) → ((k : ℕ) → k < length before → k < n * n → done k ≡ false) → Partway done before
-  partway_none done none = record { same_length = refl; places = λ k d within. unmoved k d (done k) (none k within) }
-
-  -- the visit of a place that was not done
-  pub partway_visit : (done next : ℕ → Bool) (cells : List C) (p : ℕ) (b new : C) → Partway done cells → p < length before → done p ≡ false → next p ≡ true → ((k : ℕ) → (k ≡ p → ⊥) → next k ≡ done k) → b ≡ get_or cells p b → new ≡ changed_at o n s p b → Partway next (set cells p new)
-  partway_visit done next cells p b new sofar within undone now_done others read is = record {
-    same_length = length-set cells p new ∙ sofar.same_length;
-    places = λ k d there.
-        ⊎_elim
-        (λ here.
-        subst (λ x. get_or (set cells p new) x d ≡ held x d (next x)) (sym here)
-        (get_or-set_same cells p new d (omega (arith, sofar.same_length)) ∙ is
-        ∙ ap (changed_at o n s p) (get_or_read cells p b (omega (arith, sofar.same_length)) read d ∙ sofar.places p d within ∙ ap (held p d) undone)
-        ∙ sym (ap (held p d) now_done)))
-        (λ other. get_or-set_other cells p k new d other ∙ sofar.places k d there ∙ sym (ap (held k d) (others k other)))
-        (cases_eq k p);
-  }
-
-  -- a place that is done, or in surplus, is as it should be
-  finished : (k : ℕ) (d : C) (done : Bool) → (k < n * n → done ≡ true) → held k d done ≡ changed_at o n s k (get_or before k d)
-  finished k d done all = grind (arith, nat_tests, all)
-
-  pub partway_all : (done : ℕ → Bool) (cells : List C) → Partway done cells → ((k : ℕ) → k < length before → k < n * n → done k ≡ true) → cells ≡ stepped o n s before
-  partway_all done cells sofar all =
-      same_lists cells (stepped o n s before) (sofar.same_length ∙ sym (length-stepped o n s before)) (λ k d within.
-      let there : k < length before = omega (arith, sofar.same_length) in
-      sofar.places k d there ∙ finished k d (done k) (all k there) ∙ sym (get_or-stepped o n s before k d there))

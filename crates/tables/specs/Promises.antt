@@ -16,7 +16,7 @@ module _ {C : Type 0} (o : Operations C) (n : ℕ) where
 
   -- a step was made: each cell of the table has become what the rule says for its row and column, and cells in surplus stay
   pub record StepMade (before : List (Widened C)) (s : Step C) (after : List (Widened C)) : Type 0 where
-    pub each : Whole n before → (r c : ℕ) → r < n → c < n → grid (widened o) n after r c ≡ changed (widened o) (Allowed s.amount) (in_set s.rows r) (in_set s.columns c) (grid (widened o) n before r c)
+    pub each : Whole n before → (r c : ℕ) → r < n → c < n → grid (widened o) n after r c ≡ changed (widened o) (Allowed s.amount) (in_set s.sets.rows r) (in_set s.sets.columns c) (grid (widened o) n before r c)
     pub surplus : (k : ℕ) (d : Widened C) → n * n ≤ k → slice_index_or after k d ≡ slice_index_or before k d
 
   -- every roster, whichever it is, costs so much more before than after

@@ -13,7 +13,7 @@ in_set mask r = mask / 2 ^ r % 2 == 1
 
 -- the rows and the columns of a step, less n; 0 where they are no more than n
 abbrev pub excess : {C : Type 0} → ℕ → Step C → ℕ
-excess n s = count_ones s.rows + count_ones s.columns - n
+excess n s = count_ones s.sets.rows + count_ones s.sets.columns - n
 
 -- what a cell becomes: the rest in both sets, the composition in neither, and in one of them what it was
 abbrev pub changed : {C : Type 0} → Operations C → C → Bool → Bool → C → C
@@ -24,7 +24,7 @@ changed o amount false false b = o.compose amount b
 
 -- the same by a cell's place in a table of n columns; cells in surplus stay
 abbrev pub changed_at : {C : Type 0} → Operations C → ℕ → Step C → ℕ → C → C
-changed_at o n s place b = cond (nat_lt place (n * n)) (changed o s.amount (in_set s.rows (place / n)) (in_set s.columns (place % n)) b) b
+changed_at o n s place b = cond (nat_lt place (n * n)) (changed o s.amount (in_set s.sets.rows (place / n)) (in_set s.sets.columns (place % n)) b) b
 
 abbrev pub stepped_from : {C : Type 0} → Operations C → ℕ → Step C → ℕ → List C → List C
 stepped_from o n s place [] = []
@@ -45,10 +45,10 @@ AtMostInside o n t rows columns amount = (r c : ℕ) → r < n → c < n → in_
 
 -- a step that may be made: its sets lie in the table, its excess is at least 1, and its amount is at most every cell in both sets
 pub record Admissible {C : Type 0} (o : Operations C) (n : ℕ) (t : ℕ → ℕ → C) (s : Step C) : Type 0 where
-  pub rows_there : s.rows < 2 ^ n
-  pub columns_there : s.columns < 2 ^ n
+  pub rows_there : s.sets.rows < 2 ^ n
+  pub columns_there : s.sets.columns < 2 ^ n
   pub some_excess : 1 ≤ excess n s
-  pub amount_fits : AtMostInside o n t s.rows s.columns s.amount
+  pub amount_fits : AtMostInside o n t s.sets.rows s.sets.columns s.amount
 
 -- steps that may be made one after the other
 abbrev pub AllAdmissible : {C : Type 0} → Operations C → ℕ → List C → List (Step C) → Type 0
@@ -84,7 +84,7 @@ pub record FirstNotAbsorbed {C : Type 0} (o : Operations C) (t : ℕ → ℕ →
 
 -- a step by an allowed amount, on a table of cells that may be forbidden
 abbrev pub wide : {C : Type 0} → Step C → Step (Widened C)
-wide s = record { rows = s.rows; columns = s.columns; amount = Allowed s.amount }
+wide s = record { sets = s.sets; amount = Allowed s.amount }
 
 abbrev pub is_forbidden : {C : Type 0} → Widened C → Bool
 is_forbidden (Allowed c) = false

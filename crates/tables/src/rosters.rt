@@ -6,16 +6,8 @@ ghost use Rattle.tables.specs.Rosters.{Roster};
 pub fn is_roster(columns: &[u8], n: usize) -> bool
     ensures { Decides result (Roster n columns.now) }
 {
-    if columns.len() != n {
-        return false;
-    }
-    for (i, column) in columns.iter().enumerate() {
-        if *column as usize >= n {
-            return false;
-        }
-        if columns[0..i].contains(column) {
-            return false;
-        }
-    }
-    true
+    columns.len() == n
+        && columns.iter().enumerate().all(|(row, column)| {
+            usize::from(*column) < n && !columns[..row].contains(column)
+        })
 }

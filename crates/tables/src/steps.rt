@@ -1,8 +1,8 @@
 // Steps: their sets, their excess, and the value of a list of them.
-ghost use Rattle.std.specs.Prelude.{◌≡◌, ◌≤◌, Decides, count_ones};
+ghost use Rattle.std.specs.Prelude.{◌≡◌, ◌+◌, ◌≤◌, ◌&&◌, Decides, count_ones};
 ghost use Rattle.tables.specs.Steps.{in_set, excess, times, taken, value, Absorbed, wide};
 
-use crate::values::{Size, Step};
+use crate::values::{Sets, Size, Step};
 use costs::kind::CostKind;
 use costs::values::Widened;
 
@@ -12,10 +12,7 @@ const MASK_BITS: usize = 32;
 pub fn in_set(mask: u32, i: usize) -> bool
     ensures { result ≡ in_set mask i }
 {
-    if i >= MASK_BITS {
-        return false;
-    }
-    (mask >> i) & 1 == 1
+    i < MASK_BITS && (mask >> i) & 1 == 1
 }
 
 // How many rows or columns a mask's set has.
@@ -26,12 +23,28 @@ pub fn members(mask: u32) -> usize
     mask.count_ones() as usize
 }
 
+impl Sets {
+    // Whether a row and a column lie each in its set.
+    pub fn hold(self, row: usize, column: usize) -> bool
+        ensures { result ≡ in_set self.rows row && in_set self.columns column }
+    {
+        in_set(self.rows, row) && in_set(self.columns, column)
+    }
+
+    // How many rows and columns they have together.
+    pub fn members(self) -> usize
+        ensures { result ≡ count_ones self.rows + count_ones self.columns }
+    {
+        members(self.rows) + members(self.columns)
+    }
+}
+
 impl<C> Step<C> {
     // The number of its rows and columns, less those of a table's side.
     pub fn excess(&self, size: Size) -> usize
         ensures { result ≡ excess size.n self.now }
     {
-        (members(self.rows) + members(self.columns)).saturating_sub(size.rows())
+        self.sets.members().saturating_sub(size.rows())
     }
 }
 
@@ -39,11 +52,7 @@ impl<C> Step<C> {
 pub fn compose_times<K: CostKind>(cost: K, count: usize) -> K
     ensures { result ≡ times K.operations count cost }
 {
-    let mut all = K::empty();
-    for _ in 0..count {
-        all = all.compose(cost);
-    }
-    all
+    (0..count).fold(K::empty(), |all, _| all.compose(cost))
 }
 
 impl<K: CostKind> Step<K> {
@@ -59,8 +68,7 @@ impl<K: CostKind> Step<K> {
         ensures { result ≡ wide self.now }
     {
         Step {
-            rows: self.rows,
-            columns: self.columns,
+            sets: self.sets,
             amount: Widened::Allowed(self.amount),
         }
     }
@@ -70,23 +78,15 @@ impl<K: CostKind> Step<K> {
 pub fn value<K: CostKind>(steps: &[Step<K>], size: Size) -> K
     ensures { result ≡ value K.operations size.n steps.now }
 {
-    let mut z = K::empty();
-    for step in steps {
-        z = z.compose(step.taken(size));
-    }
-    z
-}
-
-// Whether `z` with the cell is at most `z`.
-fn adds_nothing<C: CostKind>(z: C, cell: C) -> bool
-    ensures { result ≡ C.operations.at_most (C.operations.compose z cell) z }
-{
-    z.compose(cell).at_most(z)
+    steps
+        .iter()
+        .map(|step| step.taken(size))
+        .fold(K::empty(), K::compose)
 }
 
 // Whether the cell is absorbed by the value `z`. No cell lowers a value, so one comparison decides it.
 pub fn absorbs<C: CostKind>(z: C, cell: C) -> bool
     ensures { Decides result (Absorbed C.operations z cell) }
 {
-    adds_nothing(z, cell)
+    z.compose(cell).at_most(z)
 }

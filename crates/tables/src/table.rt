@@ -8,7 +8,7 @@ ghost use Rattle.tables.specs.LeastCells.{NoneInside, LeastInside};
 ghost use Rattle.tables.specs.Steps.{stepped, stepped_all, AtMostInside, AllAbsorbed, FirstNotAbsorbed, wide, is_forbidden};
 
 use crate::cells::{apply_step, at_most_inside, first_not_absorbed, least_cell, roster_cost};
-use crate::values::{Least, Size, Step};
+use crate::values::{Least, Sets, Size, Step};
 use costs::kind::CostKind;
 use costs::values::Widened;
 
@@ -28,18 +28,18 @@ impl<'a, K: CostKind> Table<'a, K> {
     }
 
     // The least cell in a set of rows and a set of columns, with its row and column.
-    pub fn least(&self, rows: u32, columns: u32) -> Option<Least<Widened<K>>>
-        ensures { MatchOption result (NoneInside (side self.now) rows columns) (λ least. LeastInside (widened K.operations) (side self.now) (at K.operations self.now) rows columns least) }
+    pub fn least(&self, sets: Sets) -> Option<Least<Widened<K>>>
+        ensures { MatchOption result (NoneInside (side self.now) sets.rows sets.columns) (λ least. LeastInside (widened K.operations) (side self.now) (at K.operations self.now) sets.rows sets.columns least) }
     {
-        least_cell(self.cells, self.size, rows, columns)
+        least_cell(self.cells, self.size, sets)
     }
 
     // Whether the step's amount is at most every cell in both its sets.
     pub fn amount_fits(&self, step: Step<K>) -> bool
-        ensures { Decides result (AtMostInside (widened K.operations) (side self.now) (at K.operations self.now) step.rows step.columns (Allowed step.amount)) }
+        ensures { Decides result (AtMostInside (widened K.operations) (side self.now) (at K.operations self.now) step.sets.rows step.sets.columns (Allowed step.amount)) }
     {
         let amount = Widened::Allowed(step.amount);
-        at_most_inside(amount, self.cells, self.size, step.rows, step.columns)
+        at_most_inside(amount, self.cells, self.size, step.sets)
     }
 
     // The first row of a roster whose cell is not absorbed by the value `z`.

@@ -9,7 +9,7 @@ mod tests {
     use tables::rosters::is_roster;
     use tables::steps::{absorbs, value};
     use tables::table::Table;
-    use tables::values::{Size, Step};
+    use tables::values::{Sets, Size, Step};
 
     // The class of driving a duty that starts at 360 after one that finishes at `finish`, with its minutes.
     fn class_after(finish: u16) -> Option<(u8, u64)> {
@@ -106,8 +106,7 @@ mod tests {
 
     fn step(rows: u32, columns: u32, minutes: u64) -> Step<Total> {
         Step {
-            rows,
-            columns,
+            sets: Sets { rows, columns },
             amount: Total { minutes },
         }
     }
@@ -143,12 +142,20 @@ mod tests {
             table.first_not_absorbed(Total { minutes: 8 }, &[1, 0]),
             Some(0)
         );
-        let least = table.least(1, 2).expect(&rt, "a cell lies in both sets");
+        let sets = Sets {
+            rows: 1,
+            columns: 2,
+        };
+        let least = table.least(sets).expect(&rt, "a cell lies in both sets");
         assert_eq!(rt;
             (minutes(least.amount), least.row, least.column),
             (Some(1), 0, 1)
         );
-        assert!(rt; table.least(0, 2).is_none());
+        let no_rows = Sets {
+            rows: 0,
+            columns: 2,
+        };
+        assert!(rt; table.least(no_rows).is_none());
         assert_eq!(rt; (minutes(cells[0]), minutes(cells[1])), (Some(0), Some(1)));
         assert_eq!(rt; (minutes(cells[2]), minutes(cells[3])), (Some(0), Some(0)));
         assert_eq!(rt; (minutes(cells[4]), minutes(cells[5])), (Some(7), None));

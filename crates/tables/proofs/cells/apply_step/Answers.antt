@@ -1,26 +1,13 @@
-use Rattle.std.proofs.Common.{◌≡◌, ◌*◌, ltb, sym, ap, ◌∙◌, arith}
-use Rattle.std.proofs.lemmas.Bool.{lt-ltb, le-ltb}
-use Rattle.std.proofs.lemmas.Bool.Decides.{nat_tests}
-use Rattle.tables.proofs.Stepping.{changed_there, partway_none, partway_visit, partway_all}
+use Rattle.std.proofs.Common.{◌≤◌, ◌*◌, inl, inr, ◌∙◌}
+use Rattle.std.proofs.lemmas.List.{set-get_or}
+use Rattle.tables.proofs.Stepping.{partway_all}
 use Rattle.tables.proofs.cells.apply_step.Goals as goal
 
-pub loop-place-init : goal.loop-place-init
-loop-place-init g c = partway_none _ _ _ _ _ (λ k _ _. le-ltb k 0 (omega arith))
+pub returns-after-loop-place : goal.returns-after-loop-place
+returns-after-loop-place g c =
+    partway_all g.C.CostKind.operations c.args.size.n c.args.step c.args.cells.now c.loop-place.place c.loop-place.cells c.loop-place.auto.cells (inl c.loop-place-test.false) c.loop-place.invariant
 
-pub loop-place-preserved : goal.loop-place-preserved
-loop-place-preserved g c =
-    let o = g.C.CostKind.operations in
-    let n = c.args.size.n in
-    let p = c.loop-place.place in
-    let b = c.index-cells-place.result in
-    let whole : c.rows-n.result * c.rows-n.result ≡ n * n = ap (λ m. m * m) c.rows-n.ensures in
-    partway_visit o n c.args.step c.args.cells.now (λ k. ltb k p) _ c.loop-place.cells p b c.changed_cell.result
-    c.loop-place.invariant (omega (arith, c.loop-place-test.true, c.min-place-end.ensures)) (le-ltb p p (omega arith)) (lt-ltb p _ (omega arith)) (λ k other. grind (arith, nat_tests)) c.index-cells-place.is
-    (c.changed_cell.ensures ∙ sym (changed_there o n c.args.step p b (omega (arith, whole, c.loop-place-test.true, c.min-place-end.ensures))))
-
-pub returns : goal.returns
-returns g c =
-    let n = c.args.size.n in
-    let whole : c.rows-n.result * c.rows-n.result ≡ n * n = ap (λ m. m * m) c.rows-n.ensures in
-    partway_all g.C.CostKind.operations n c.args.step c.args.cells.now (λ k. ltb k c.loop-place.place) c.loop-place.cells c.loop-place.invariant
-    (λ k within there. lt-ltb k c.loop-place.place (omega (arith, whole, c.loop-place-test.false, c.min-place-end.ensures)))
+pub returns-then-place-n : goal.returns-then-place-n
+returns-then-place-n g c =
+    let past : c.args.size.n * c.args.size.n ≤ c.loop-place.place = rw (← c.rows-n.ensures) c.if-place-n.true in
+    set-get_or c.loop-place.cells c.loop-place.place c.index-cells-place.result ∙ partway_all g.C.CostKind.operations c.args.size.n c.args.step c.args.cells.now c.loop-place.place c.loop-place.cells c.loop-place.auto.cells (inr past) c.loop-place.invariant

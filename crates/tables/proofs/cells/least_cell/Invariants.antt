@@ -2,7 +2,12 @@ use Rattle.tables.specs.Tables.{grid}
 use Rattle.tables.proofs.LeastCells.{Sofar}
 use Rattle.tables.proofs.cells.least_cell.Given as goal
 
-abbrev pub invariant-loop-place : goal.invariant-loop-place
-invariant-loop-place g l =
+abbrev pub invariant-loop-row : goal.invariant-loop-row
+invariant-loop-row g l =
     let o = g.C.CostKind.operations in
-    Sofar o l.n (grid o l.size.n l.cells) l.rows l.columns l.place l.least
+    Sofar o l.size.n (grid o l.size.n l.cells) l.sets.rows l.sets.columns l.column l.row l.least
+
+abbrev pub invariant-loop-column : goal.invariant-loop-column
+invariant-loop-column g l =
+    let o = g.C.CostKind.operations in
+    Sofar o l.size.n (grid o l.size.n l.cells) l.sets.rows l.sets.columns l.column 0 l.least

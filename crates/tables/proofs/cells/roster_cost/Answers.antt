@@ -1,15 +1,21 @@
-use Rattle.std.proofs.Common.{ap, ◌∙◌, ap₂, take_all}
-use Rattle.tables.specs.Tables.{grid, roster_cost}
-use Rattle.tables.proofs.Chosen.{cost_more}
+use Rattle.std.proofs.Common.{rules, ◌∙◌, ap}
+use borrow.Author.Tests.{tests}
+use Rattle.std.proofs.lemmas.Iterator.{YieldsList-from_map}
+use Rattle.std.proofs.lemmas.Iterator.Consumers.{YieldsList-at, fold_from_yields_List}
+use Rattle.costs.specs.Kinds.{composed}
+use Rattle.tables.specs.Tables.{grid}
+use Rattle.tables.proofs.Chosen.{cells_chosen}
+use Rattle.tables.proofs.Seats.{seats_yielded}
+use Rattle.tables.proofs.Worths.{folded}
 use Rattle.tables.proofs.cells.roster_cost.Goals as goal
-
-pub loop-row-preserved : goal.loop-row-preserved
-loop-row-preserved g c =
-    let o = g.C.CostKind.operations in
-    c.compose-cost.ensures ∙ ap₂ o.compose c.loop-row.invariant c.cell_at.ensures
-    ∙ cost_more (grid o c.args.size.n c.args.cells.now) g.met.C.CostKind.lawful c.args.roster.now c.loop-row.row c.loop-row-test.true
 
 pub returns : goal.returns
 returns g c =
     let o = g.C.CostKind.operations in
-    c.loop-row.invariant ∙ ap (roster_cost o (grid o c.args.size.n c.args.cells.now)) (take_all _ _ c.loop-row-test.false)
+    let t = grid o c.args.size.n c.args.cells.now in
+    let seats = seats_yielded c.args.roster.now c.enumerate.ensures.source c.iter.ensures.rest c.enumerate.ensures.count in
+    fold_from_yields_List _ o.compose _ _ c.fold.ensures.ran
+    (YieldsList-from_map _ (λ p. t p.0 p.1) (YieldsList-at c.map.ensures.source seats) c.map.ensures.closure (λ x r q k. search (rules, tests)))
+    (λ a x b q k. search (rules, tests))
+    ∙ folded g.met.C.CostKind.lawful _ _ c.empty.ensures
+    ∙ ap (composed o) (cells_chosen t 0 c.args.roster.now)

@@ -1,12 +1,15 @@
-use Rattle.std.proofs.Common.{ap, ◌∙◌, ap₂, take_all}
-use Rattle.tables.specs.Steps.{value}
-use Rattle.tables.proofs.Worths.{value_more}
+use Rattle.std.proofs.Common.{rules, ◌∙◌}
+use borrow.Author.Tests.{tests}
+use Rattle.std.proofs.lemmas.Iterator.{YieldsList-from_slice, YieldsList-from_map}
+use Rattle.std.proofs.lemmas.Iterator.Consumers.{YieldsList-at, fold_from_yields_List}
+use Rattle.tables.specs.Steps.{taken}
+use Rattle.tables.proofs.Worths.{folded}
 use Rattle.tables.proofs.steps.value.Goals as goal
 
-pub loop-step-preserved : goal.loop-step-preserved
-loop-step-preserved g c =
-    c.compose-z.ensures ∙ ap₂ g.K.CostKind.operations.compose c.loop-step.invariant c.taken.ensures
-    ∙ value_more g.met.K.CostKind.lawful c.args.size.n c.args.steps.now c.loop-step.step-index c.step-item.result c.loop-step-test.true c.step-item.is
-
 pub returns : goal.returns
-returns g c = c.loop-step.invariant ∙ ap (value g.K.CostKind.operations c.args.size.n) (take_all _ _ c.loop-step-test.false)
+returns g c =
+    let o = g.K.CostKind.operations in
+    fold_from_yields_List _ o.compose _ _ c.fold.ensures.ran
+    (YieldsList-from_map _ (taken o c.args.size.n) (YieldsList-at c.map.ensures.source (YieldsList-from_slice c.args.steps.now (cc))) c.map.ensures.closure (λ x r q k. search (rules, tests)))
+    (λ a x b q k. search (rules, tests))
+    ∙ folded g.met.K.CostKind.lawful _ _ c.empty.ensures
