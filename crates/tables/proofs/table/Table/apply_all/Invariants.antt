@@ -5,5 +5,8 @@ use Rattle.tables.specs.Steps.{stepped_all, wide}
 use Rattle.tables.proofs.table.Table.apply_all.Given as goal
 
 abbrev pub invariant-loop-step : goal.invariant-loop-step
-invariant-loop-step g l =
-    (l.self.cells.ghost_name ≡ l.initial.self.cells.ghost_name) × (l.self.size ≡ l.initial.self.size) × (cells_of l.self ≡ stepped_all (widened g.K.CostKind.operations) (side l.initial.self) (map wide (take l.step-index l.steps)) (cells_of l.initial.self))
+invariant-loop-step g l = record {
+  lent : l.self.cells.ghost_name ≡ l.initial.self.cells.ghost_name;
+  size : l.self.size ≡ l.initial.self.size;
+  cells : cells_of l.self ≡ stepped_all (widened g.K.CostKind.operations) (side l.initial.self) (map wide (take l.step-index l.steps)) (cells_of l.initial.self);
+}
