@@ -1,8 +1,10 @@
 -- A roster's columns meet a set of columns as often as the set has members. Assumes nothing.
-use Rattle.std.proofs.Common.{◌≡◌, ℕ, zero, suc, ◌+◌, ◌-◌, ◌/◌, ◌%◌, ◌^◌, ◌<◌, ◌≤◌, cond, eqb, List, [], ◌∷◌, length, get_or, sum_by, sym, refl, ap, ◌∙◌, ⊎_elim, pow-suc, div-one, arith}
-use lib.Count.{ones, ones_step, ones-le}
+use Rattle.std.proofs.Common.{◌≡◌, ℕ, zero, suc, count_ones, ◌+◌, ◌-◌, ◌/◌, ◌^◌, ◌<◌, ◌≤◌, cond, eqb, List, [], ◌∷◌, length, get_or, sum_by, sym, refl, ap, ◌∙◌, ⊎_elim, pow-suc, div-one, arith}
 use Rattle.std.specs.List.{AllByRecursion}
-use Rattle.std.proofs.lemmas.Nat.{shr-shr}
+use Rattle.std.specs.Int.{bit_at}
+use Rattle.std.specs.Int.Count.{ones_step}
+use Rattle.std.proofs.lemmas.Nat.{ones-le}
+use Rattle.std.proofs.lemmas.Nat.Bits.{bit_at-suc}
 use Rattle.std.proofs.ByRecursion.{All-from_get_or}
 use Rattle.std.proofs.lemmas.List.Sums.{sum_by-cons}
 use Rattle.std.proofs.lemmas.Bool.{cases_eq}
@@ -65,11 +67,7 @@ module _ (f : ℕ → ℕ) (small : (x : ℕ) → f x ≤ 1) where
   all_counted n xs whole there once =
       omega (arith, sum_both xs, below_both n, different_sum f n xs there once, different_sum other n xs there once)
 
--- the bit of worth 2^r
-abbrev pub bit : ℕ → ℕ → ℕ
-bit mask r = mask / 2 ^ r % 2
-
-pub bit_small : (mask r : ℕ) → bit mask r ≤ 1
+pub bit_small : (mask r : ℕ) → bit_at mask r ≤ 1
 bit_small mask r = omega arith
 
 below_first : (f : ℕ → ℕ) (n : ℕ) → below f (suc n) ≡ f 0 + below (λ r. f (suc r)) n
@@ -80,16 +78,13 @@ below_same : (f g : ℕ → ℕ) → ((r : ℕ) → f r ≡ g r) → (n : ℕ) �
 below_same f g same zero = refl
 below_same f g same (suc n) = omega (arith, same n, below_same f g same n)
 
-bit_up : (mask r : ℕ) → bit mask (suc r) ≡ bit (mask / 2) r
-bit_up mask r = ap (λ m. m % 2) (sym (shr-shr mask 1 r ∙ ap (λ k. mask / 2 ^ k) (omega arith)))
-
 -- a mask's bits below n are counted by its ones, where it has no others
-pub bits_are_ones : (n mask : ℕ) → mask < 2 ^ n → below (bit mask) n ≡ ones mask
+pub bits_are_ones : (n mask : ℕ) → mask < 2 ^ n → below (bit_at mask) n ≡ count_ones mask
 bits_are_ones zero mask small = omega (arith, ones-le 0 mask small)
 bits_are_ones (suc n) mask small =
     let half : mask / 2 < 2 ^ n = omega (arith, pow-suc 2 n) in
-    omega (arith, below_first (bit mask) n, below_same (λ r. bit mask (suc r)) (bit (mask / 2)) (bit_up mask) n, bits_are_ones n (mask / 2) half, ones_step mask, div-one mask)
+    omega (arith, below_first (bit_at mask) n, below_same (λ r. bit_at mask (suc r)) (bit_at (mask / 2)) (bit_at-suc mask) n, bits_are_ones n (mask / 2) half, ones_step mask, div-one mask)
 
 -- a roster's columns meet a set of columns as often as it has members
-pub columns_counted : (n mask : ℕ) (columns : List ℕ) → mask < 2 ^ n → length columns ≡ n → AllByRecursion (λ x. x < n) columns → Different columns → sum_by (bit mask) columns ≡ ones mask
-columns_counted n mask columns small whole there once = all_counted (bit mask) (bit_small mask) n columns whole there once ∙ bits_are_ones n mask small
+pub columns_counted : (n mask : ℕ) (columns : List ℕ) → mask < 2 ^ n → length columns ≡ n → AllByRecursion (λ x. x < n) columns → Different columns → sum_by (bit_at mask) columns ≡ count_ones mask
+columns_counted n mask columns small whole there once = all_counted (bit_at mask) (bit_small mask) n columns whole there once ∙ bits_are_ones n mask small

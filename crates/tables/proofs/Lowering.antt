@@ -1,7 +1,7 @@
 -- A step takes the same off every roster. There is no cancelling in a kind, so both costs of a roster are split into amounts and a residue.
 -- Assumes nothing.
-use Rattle.std.proofs.Common.{◌≡◌, ℕ, zero, suc, ◌+◌, ◌-◌, ◌^◌, ◌<◌, ◌≤◌, Bool, true, false, cond, List, [], ◌∷◌, length, sum_by, sym, refl, ap, ◌∙◌, subst, ap₂, arith}
-use lib.Count.{ones}
+use Rattle.std.proofs.Common.{◌≡◌, ℕ, zero, suc, count_ones, ◌+◌, ◌-◌, ◌^◌, ◌<◌, ◌≤◌, Bool, true, false, cond, List, [], ◌∷◌, length, sum_by, sym, refl, ap, ◌∙◌, subst, ap₂, arith}
+use Rattle.std.specs.Int.{bit_at}
 use Rattle.std.specs.List.{AllByRecursion}
 use Rattle.std.proofs.lemmas.List.Sums.{sum_by-cons}
 use Rattle.std.proofs.lemmas.Bool.Decides.{nat_tests}
@@ -10,7 +10,7 @@ use Rattle.tables.specs.Rosters.{Roster}
 use Rattle.tables.specs.Steps.{in_set, excess, changed, Admissible, times, taken}
 use Rattle.tables.specs.Tables.{chosen_from, roster_cost}
 use Rattle.tables.specs.declared.values.Step.{Step}
-use Rattle.tables.proofs.Counts.{below, bit, bit_small, bits_are_ones, columns_counted}
+use Rattle.tables.proofs.Counts.{below, bit_small, bits_are_ones, columns_counted}
 use Rattle.tables.proofs.Orders.{swap_first, exchange}
 use Rattle.tables.proofs.Worths.{times_add}
 
@@ -53,21 +53,21 @@ module _ (rows columns : ℕ) where
   one_row x y p q false true a b = omega arith
   one_row x y p q false false a b = omega arith
 
-  as_bit : (mask r : ℕ) → cond (in_set mask r) 1 0 ≡ bit mask r
+  as_bit : (mask r : ℕ) → cond (in_set mask r) 1 0 ≡ bit_at mask r
   as_bit mask r = grind (arith, nat_tests, bit_small mask r)
 
   -- a row in both sets counts once more than a row in one of them, and a row in neither once less
-  rows_counted : (r : ℕ) (cs : List ℕ) → inside r cs + length cs ≡ from (bit rows) r (length cs) + sum_by (bit columns) cs + outside r cs
+  rows_counted : (r : ℕ) (cs : List ℕ) → inside r cs + length cs ≡ from (bit_at rows) r (length cs) + sum_by (bit_at columns) cs + outside r cs
   rows_counted r [] = refl
   rows_counted r (c ∷ cs) =
-      omega (arith, rows_counted (suc r) cs, sum_by-cons (bit columns) c cs, one_row (bit rows r) (bit columns c) (inside (suc r) cs) (outside (suc r) cs) (in_set rows r) (in_set columns c) (as_bit rows r) (as_bit columns c))
+      omega (arith, rows_counted (suc r) cs, sum_by-cons (bit_at columns) c cs, one_row (bit_at rows r) (bit_at columns c) (inside (suc r) cs) (outside (suc r) cs) (in_set rows r) (in_set columns c) (as_bit rows r) (as_bit columns c))
 
   -- a roster uses in both sets more cells than in neither, by the excess
-  more_inside : (n : ℕ) (cs : List ℕ) → Roster n cs → rows < 2 ^ n → columns < 2 ^ n → n ≤ ones rows + ones columns → inside 0 cs ≡ (ones rows + ones columns - n) + outside 0 cs
+  more_inside : (n : ℕ) (cs : List ℕ) → Roster n cs → rows < 2 ^ n → columns < 2 ^ n → n ≤ count_ones rows + count_ones columns → inside 0 cs ≡ (count_ones rows + count_ones columns - n) + outside 0 cs
   more_inside n cs roster rows_there columns_there enough =
       let whole = roster.every_row in
-      let rows_met : from (bit rows) 0 (length cs) ≡ ones rows = omega (arith, from_below (bit rows) 0 (length cs) n (omega arith), bits_are_ones n rows rows_there) in
-      let columns_met : sum_by (bit columns) cs ≡ ones columns = columns_counted n columns cs columns_there whole roster.column_there (λ i j lt up e. roster.none_twice i j lt (omega arith) e) in
+      let rows_met : from (bit_at rows) 0 (length cs) ≡ count_ones rows = omega (arith, from_below (bit_at rows) 0 (length cs) n (omega arith), bits_are_ones n rows rows_there) in
+      let columns_met : sum_by (bit_at columns) cs ≡ count_ones columns = columns_counted n columns cs columns_there whole roster.column_there (λ i j lt up e. roster.none_twice i j lt (omega arith) e) in
       omega (arith, rows_counted 0 cs, rows_met, columns_met)
 
 module _ {C : Type 0} {o : Operations C} (laws : Laws o) (a : C) where
