@@ -1,11 +1,5 @@
 -- Rosters of two rows: there are two. Assumes nothing.
-use mathlib.Core.Path.{◌≡◌, refl, sym, ap₂, subst, ◌∙◌}
-use mathlib.Core.Bool.{true}
-use mathlib.Core.List.{List, [], ◌∷◌}
-use mathlib.Core.Logic.{◌⊎◌, inl, inr, ⊎_elim}
-use Prim.Native.Nat.{ℕ, zero, suc, ◌<◌}
-use native.Mathlib.Omega.{arith}
-use lib.ListN.{get_or}
+use Rattle.std.proofs.Common.{◌≡◌, ℕ, zero, suc, ◌<◌, true, List, [], ◌∷◌, get_or, ◌⊎◌, inl, inr, ⊎_elim, refl, sym, ap₂, subst, ◌∙◌, arith}
 use Rattle.costs.specs.Kinds.{Operations}
 use Rattle.tables.specs.Rosters.{Roster}
 use Rattle.tables.specs.Tables.{roster_cost, Cheapest}

@@ -1,8 +1,6 @@
-use mathlib.Core.Path.{◌≡◌, refl, sym, ap, ap₂, ◌∙◌}
-use mathlib.Core.Bool.{false≢true}
-use Prim.Native.Nat.{ℕ, ◌+◌, ◌-◌}
-use native.Mathlib.Omega.{arith}
-use lib.Count.{ones, ones_step, ones-ones}
+use Rattle.std.proofs.Common.{◌≡◌, ℕ, ◌+◌, ◌-◌, count_ones, refl, sym, ap, ap₂, ◌∙◌, arith}
+use Rattle.std.specs.Int.Count.{ones_step, ones-ones}
+use Rattle.std.proofs.lemmas.Bool.{false≢true}
 use Rattle.costs.specs.Classes.{class_operations}
 use Rattle.costs.specs.Totals.{total_operations}
 use Rattle.costs.specs.Wide.{widened}
@@ -16,10 +14,10 @@ use Rattle.examples.specs.Worked.{total, worst, class, two_rows, eights}
 use Rattle.examples.proofs.TwoRows.{of_four, cheapest_of_two}
 use Rattle.examples.proofs.examples_hold.Goals as goal
 
-one_member : ones 2 ≡ 1
+one_member : count_ones 2 ≡ 1
 one_member = omega (arith, ones_step 2, ones-ones 1)
 
-two_members : ones 3 ≡ 2
+two_members : count_ones 3 ≡ 2
 two_members = ones-ones 2
 
 -- a sum of amounts, each taken as often as its excess says
