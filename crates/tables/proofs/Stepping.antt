@@ -1,8 +1,8 @@
 -- The cells after a step, place by place, and what a list of steps does. Assumes nothing.
-use Rattle.std.proofs.Common.{◌≡◌, ℕ, zero, suc, ◌+◌, ◌*◌, ◌/◌, ◌%◌, ◌<◌, ◌≤◌, Bool, true, false, cond, ltb, List, [], ◌∷◌, ◌++◌, map, length, get_or, take, IfNone, ◌⊎◌, Some, None, Option, sym, refl, ap, ◌∙◌, subst, ap₂, ⊎_elim, arith, MatchOption}
+use Rattle.std.proofs.Common.{◌≡◌, ℕ, zero, suc, ◌+◌, ◌*◌, ◌/◌, ◌%◌, ◌<◌, ◌≤◌, Bool, true, false, cond, ltb, List, [], ◌∷◌, ◌++◌, map, length, get_or, take, IfNone, ◌⊎◌, inl, inr, min, drop, length-drop, length-take-le, Some, None, Option, sym, refl, ap, ◌∙◌, subst, ap₂, ⊎_elim, arith, MatchOption}
 use Rattle.std.specs.List.{AllByRecursion}
 use Rattle.std.proofs.lemmas.Nat.{mul-add-lt, div-mul-add, mod-mul-add}
-use Rattle.std.proofs.lemmas.List.{get_or_default, get_or_past, map_more, same_lists}
+use Rattle.std.proofs.lemmas.List.{get_or_default, get_or_past, map_more, same_lists, take-append-drop}
 use Rattle.std.proofs.lemmas.Bool.{cases_lt, le-ltb, lt-ltb}
 use Rattle.costs.specs.Kinds.{Operations, Laws, composed}
 use Rattle.costs.specs.Wide.{widened}
@@ -44,14 +44,29 @@ module _ {C : Type 0} (o : Operations C) (n : ℕ) where
     pub done : (k : ℕ) → k < place → get_or cells k o.empty ≡ changed_at o n s k (get_or before k o.empty)
     pub waiting : (k : ℕ) → place ≤ k → get_or cells k o.empty ≡ get_or before k o.empty
 
-  pub partway_all : (s : Step C) (before : List C) (place : ℕ) (cells : List C) → length cells ≡ length before → (length before ≤ place) ⊎ (n * n ≤ place) → Partway s before place cells → cells ≡ stepped o n s before
-  partway_all s before place cells whole end sofar =
+  partway_all : (s : Step C) (before : List C) (place : ℕ) (cells : List C) → length cells ≡ length before → length before ≤ place → Partway s before place cells → cells ≡ stepped o n s before
+  partway_all s before place cells whole all sofar =
       same_lists cells (stepped o n s before) (whole ∙ sym (length-stepped s before)) (λ k d within.
       let there : k < length before = omega arith in
-      get_or_default cells k d o.empty within ∙ each k there ∙ sym (get_or-stepped s before k o.empty there) ∙ get_or_default (stepped o n s before) k o.empty d (omega (arith, length-stepped s before)))
-    where
-      each : (k : ℕ) → k < length before → get_or cells k o.empty ≡ changed_at o n s k (get_or before k o.empty)
-      each k there = ⊎_elim (λ lt. sofar.done k lt) (λ past. sofar.waiting k past ∙ sym (changed_past s k (get_or before k o.empty) (omega arith))) (cases_lt k place)
+      get_or_default cells k d o.empty within ∙ sofar.done k (omega arith) ∙ sym (get_or-stepped s before k o.empty there) ∙ get_or_default (stepped o n s before) k o.empty d (omega (arith, length-stepped s before)))
+
+  stepped-append : (s : Step C) (place : ℕ) (xs ys : List C) (m : ℕ) → place + length xs ≡ m → stepped_from o n s place (xs ++ ys) ≡ stepped_from o n s place xs ++ stepped_from o n s m ys
+  stepped-append s place [] ys m e = let here : place ≡ m = omega arith in ap (λ p. stepped_from o n s p ys) here
+  stepped-append s place (x ∷ xs) ys m e = ap (λ l. changed_at o n s place x ∷ l) (stepped-append s (suc place) xs ys m (omega arith))
+
+  -- a step leaves a list of cells in surplus as it is
+  all_in_surplus : (s : Step C) (place : ℕ) (cells : List C) → (length cells ≡ 0) ⊎ (n * n ≤ place) → stepped_from o n s place cells ≡ cells
+  all_in_surplus s place [] past = refl
+  all_in_surplus s place (b ∷ cells) (inl none) = absurd (omega arith)
+  all_in_surplus s place (b ∷ cells) (inr past) = ap₂ ◌∷◌ (changed_past s place b past) (all_in_surplus s (suc place) cells (inr (omega arith)))
+
+  -- the step is made once its places in the table are done, of which there are m
+  pub partway_made : (s : Step C) (cells : List C) (m place : ℕ) (front : List C) → m ≡ min (n * n) (length cells) → length front ≡ length (take m cells) → length (take m cells) ≤ place → Partway s (take m cells) place front → front ++ drop m cells ≡ stepped o n s cells
+  partway_made s cells m place front is whole all sofar =
+      ap (λ l. l ++ drop m cells) (partway_all s (take m cells) place front whole all sofar)
+      ∙ ap (λ l. stepped o n s (take m cells) ++ l) (sym (all_in_surplus s m (drop m cells) (⊎_elim (λ lt. inl (omega (arith, length-drop m cells))) (λ past. inr past) (cases_lt m (n * n)))))
+      ∙ sym (stepped-append s 0 (take m cells) (drop m cells) m (omega (arith, length-take-le m cells (omega arith))))
+      ∙ ap (stepped o n s) (take-append-drop m cells)
 
   -- a place that is not in surplus
   changed_there : (s : Step C) (place : ℕ) (b : C) → place < n * n → changed_at o n s place b ≡ changed o s.amount (in_set s.sets.rows (place / n)) (in_set s.sets.columns (place % n)) b

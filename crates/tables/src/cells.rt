@@ -44,10 +44,8 @@ pub fn apply_step<C: CostKind>(cells: &mut [C], size: Size, step: Step<C>)
     ensures { cells.new ≡ stepped C.operations size.n step cells.old }
 {
     let n = size.rows();
-    for (place, cell) in cells.iter_mut().enumerate() {
-        if place >= n * n {
-            break;
-        }
+    let end = (n * n).min(cells.len());
+    for (place, cell) in cells[..end].iter_mut().enumerate() {
         *cell = changed_cell(step, place / n, place % n, *cell);
     }
 }
