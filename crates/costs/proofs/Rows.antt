@@ -1,6 +1,5 @@
 -- What a row of costs comes to, for any kind that keeps the laws. Assumes nothing.
-use Rattle.std.proofs.Common.{◌≡◌, ℕ, ◌+◌, ◌<◌, List, [], ◌∷◌, ◌++◌, map, length, get_or, take, sym, refl, ap, ◌∙◌}
-use Rattle.std.proofs.lemmas.List.{take_more}
+use Rattle.std.proofs.Common.{◌≡◌, List, [], ◌∷◌, map, sym, refl, ap, ◌∙◌}
 use Rattle.std.specs.List.{fold}
 use Rattle.costs.specs.Kinds.{Operations, Laws, composed}
 use Rattle.costs.specs.Plain.{SomeForbidden, CostOf}
@@ -9,23 +8,13 @@ use Rattle.costs.specs.declared.values.Widened.{Widened}
 use Rattle.costs.specs.declared.values.Widened.TheVariants.{Allowed, Forbidden}
 
 module _ {C : Type 0} {o : Operations C} (laws : Laws o) where
-  pub composed_push : (cs : List C) (c : C) → composed o (cs ++ (c ∷ [])) ≡ o.compose (composed o cs) c
-  composed_push [] c = laws.compose_commutes c o.empty
-  composed_push (x ∷ cs) c = ap (o.compose x) (composed_push cs c) ∙ sym (laws.compose_associates x (composed o cs) c)
-
-  -- a loop's step: one cost more
-  pub composed_more : (cs : List C) (i : ℕ) (c : C) → i < length cs → c ≡ get_or cs i c → o.compose (composed o (take i cs)) c ≡ composed o (take (i + 1) cs)
-  composed_more cs i c within read =
-      let pushed : take (i + 1) cs ≡ take i cs ++ (c ∷ []) = take_more cs i c within ∙ ap (λ x. take i cs ++ (x ∷ [])) (sym read) in
-      sym (ap (composed o) pushed ∙ composed_push (take i cs) c)
-
   fold_from : (a : C) (cs : List C) → fold o.compose a cs ≡ o.compose a (composed o cs)
   fold_from a [] = sym (laws.compose_commutes a o.empty ∙ laws.empty_neutral a)
   fold_from a (c ∷ cs) = fold_from (o.compose a c) cs ∙ laws.compose_associates a c (composed o cs)
 
   -- composed one after the other, from the empty cost on
-  pub composed_fold : (cs : List C) → fold o.compose o.empty cs ≡ composed o cs
-  composed_fold cs = fold_from o.empty cs ∙ laws.empty_neutral (composed o cs)
+  pub composed_fold : (a : C) (cs : List C) → a ≡ o.empty → fold o.compose a cs ≡ composed o cs
+  composed_fold a cs is = fold_from a cs ∙ ap (λ x. o.compose x (composed o cs)) is ∙ laws.empty_neutral (composed o cs)
 
 module _ {C : Type 0} (o : Operations C) where
   forbidden_first : (w : Widened C) → (widened o).compose Forbidden w ≡ Forbidden

@@ -1,20 +1,12 @@
 -- Costs composed one after the other, and many times. Assumes nothing.
 use Rattle.std.proofs.Common.{◌≡◌, ℕ, zero, suc, ◌+◌, List, [], ◌∷◌, length, sym, ap, ◌∙◌, suc-add, zero-add}
 use Rattle.std.specs.List.{fold}
-use Rattle.costs.specs.Kinds.{Operations, Laws, composed}
+use Rattle.costs.specs.Kinds.{Operations, Laws}
 use Rattle.tables.specs.Steps.{times}
 use Rattle.tables.proofs.Orders.{empty_right}
 
 module _ {C : Type 0} {o : Operations C} (laws : Laws o) where
-  folded_on : (a : C) (cs : List C) → fold o.compose a cs ≡ o.compose a (composed o cs)
-  folded_on a [] = sym (empty_right laws a)
-  folded_on a (c ∷ cs) = folded_on (o.compose a c) cs ∙ laws.compose_associates a c (composed o cs)
-
-  -- a fold from empty on
-  pub folded : (a : C) (cs : List C) → a ≡ o.empty → fold o.compose a cs ≡ composed o cs
-  folded a cs is = folded_on a cs ∙ ap (λ x. o.compose x (composed o cs)) is ∙ laws.empty_neutral (composed o cs)
-
-  -- and one that composes the same cost for each of xs
+  -- a fold from empty on that composes the same cost for each of xs
   pub folded_times : (c a : C) (xs : List ℕ) → a ≡ o.empty → fold (λ b _. o.compose b c) a xs ≡ times o (length xs) c
   folded_times c a xs is = times_on a xs ∙ ap (λ x. o.compose x (times o (length xs) c)) is ∙ laws.empty_neutral (times o (length xs) c)
     where

@@ -1,4 +1,4 @@
--- Steps, which of them may be made, and what they make of a table's cells. Assumes nothing.
+-- Steps (the admissible transformations of Burkard, Hahn and Zimmermann 1977): which may be made, and what they make of cells. Assumes nothing.
 use Rattle.std.specs.Prelude.{◌≡◌, ℕ, zero, suc, ◌+◌, ◌-◌, ◌*◌, ◌/◌, ◌%◌, ◌^◌, ◌<◌, ◌≤◌, Bool, true, false, cond, List, [], ◌∷◌, map, length, take, ◌==◌, count_ones, nat_lt, slice_index}
 use Rattle.std.specs.List.{AllByRecursion}
 use Rattle.costs.specs.Kinds.{Operations, composed}

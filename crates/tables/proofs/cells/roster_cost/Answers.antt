@@ -6,7 +6,7 @@ use Rattle.costs.specs.Kinds.{composed}
 use Rattle.tables.specs.Tables.{grid}
 use Rattle.tables.proofs.Chosen.{cells_chosen}
 use Rattle.tables.proofs.Seats.{seats_yielded}
-use Rattle.tables.proofs.Worths.{folded}
+use Rattle.costs.proofs.Rows.{composed_fold}
 use Rattle.tables.proofs.cells.roster_cost.Goals as goal
 
 pub returns : goal.returns
@@ -17,5 +17,5 @@ returns g c =
     fold_from_yields_List _ o.compose _ _ c.fold.ensures.ran
     (YieldsList-from_map _ (λ p. t p.0 p.1) (YieldsList-at c.map.ensures.source seats) c.map.ensures.closure (λ x r q k. search (rules, tests)))
     (λ a x b q k. search (rules, tests))
-    ∙ folded g.met.C.CostKind.lawful _ _ c.empty.ensures
+    ∙ composed_fold g.met.C.CostKind.lawful _ _ c.empty.ensures
     ∙ ap (composed o) (cells_chosen t 0 c.args.roster.now)

@@ -3,7 +3,7 @@ use borrow.Author.Tests.{tests}
 use Rattle.std.proofs.lemmas.Iterator.{YieldsList-from_slice, YieldsList-from_map}
 use Rattle.std.proofs.lemmas.Iterator.Consumers.{YieldsList-at, fold_from_yields_List}
 use Rattle.tables.specs.Steps.{taken}
-use Rattle.tables.proofs.Worths.{folded}
+use Rattle.costs.proofs.Rows.{composed_fold}
 use Rattle.tables.proofs.steps.value.Goals as goal
 
 pub returns : goal.returns
@@ -12,4 +12,4 @@ returns g c =
     fold_from_yields_List _ o.compose _ _ c.fold.ensures.ran
     (YieldsList-from_map _ (taken o c.args.size.n) (YieldsList-at c.map.ensures.source (YieldsList-from_slice c.args.steps.now (cc))) c.map.ensures.closure (λ x r q k. search (rules, tests)))
     (λ a x b q k. search (rules, tests))
-    ∙ folded g.met.K.CostKind.lawful _ _ c.empty.ensures
+    ∙ composed_fold g.met.K.CostKind.lawful _ _ c.empty.ensures
