@@ -13,6 +13,7 @@ pub trait CostKind: Copy {
     fn compose(self, other: Self) -> Self
         ensures { result ≡ operations.compose self other };
 
+    // Not given for all kinds by `<=`: a kind need have no order but this one.
     fn at_most(self, other: Self) -> bool
         ensures { result ≡ operations.at_most self other };
 

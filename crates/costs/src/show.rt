@@ -5,6 +5,7 @@ ghost use Rattle.costs.specs.Shown.{shown_cell};
 use crate::values::{Class, Total, Widened, Worst};
 use std::fmt;
 
+// Total and worst print alike, a line each: what is printed belongs to the type, and one `impl` can name one type.
 impl fmt::Display for Total {
     ghost output = { λ c. Some (decimal c.minutes) };
 

@@ -21,7 +21,7 @@ impl<K: CostKind> CostKind for Widened<K> {
         }
     }
 
-    // No derived order: a kind has none but its own `at_most`.
+    // No derived order: the kind below need have none but its own `at_most`.
     fn at_most(self, other: Widened<K>) -> bool {
         match (self, other) {
             (Widened::Allowed(a), Widened::Allowed(b)) => a.at_most(b),

@@ -1,4 +1,5 @@
 // What is read from and done to a table's cells, which lie row by row in a slice of costs.
+// Cells and size stay apart: these functions go over any slice of costs, and `Table` holds the two together.
 ghost use Rattle.std.specs.Prelude.{◌≡◌, Decides, MatchOption};
 ghost use Rattle.tables.specs.LeastCells.{NoneInside, LeastInside, with_cell};
 ghost use Rattle.tables.specs.Steps.{in_set, changed, stepped, AtMostInside, AllAbsorbed, FirstNotAbsorbed};

@@ -13,7 +13,7 @@ pub struct Size {
 }
 
 impl Size {
-    // The size of n rows, or none where n is out of bounds.
+    // The size of n rows, or none where n is out of bounds. No `TryFrom`: its error would say no more than `None`.
     pub fn of(n: usize) -> Option<Size>
         ensures { MatchOption result ((1 ≤ n) × (n ≤ 32) → ⊥) (λ s. s.n ≡ n) }
     {

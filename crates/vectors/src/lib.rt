@@ -9,29 +9,30 @@ mod tests {
     use tables::rosters::is_roster;
     use tables::steps::{absorbs, value};
     use tables::table::Table;
-    use tables::values::{Sets, Size, Step};
+    use tables::values::{Least, Sets, Size, Step};
 
-    // The class of driving a duty that starts at 360 after one that finishes at `finish`, with its minutes.
-    fn class_after(finish: u16) -> Option<(u8, u64)> {
+    // What it costs in class to have a duty that starts at 360 after one that finishes at `finish`.
+    fn class_after(finish: u16) -> Widened<Class> {
         let earlier = Duty { start: 300, finish };
         let later = Duty {
             start: 360,
             finish: 840,
         };
-        match rest_cost::<Class>(earlier, later) {
-            Widened::Allowed(cost) => Some((cost.class, cost.minutes)),
-            Widened::Forbidden => None,
-        }
+        rest_cost(earlier, later)
+    }
+
+    fn class(class: u8, minutes: u64) -> Widened<Class> {
+        Widened::Allowed(Class { class, minutes })
     }
 
     #[test]
     fn gauge_edges(rt: HostRuntime) {
-        assert_eq!(rt; class_after(1080), Some((0, 0)));
-        assert_eq!(rt; class_after(1081), Some((1, 1)));
-        assert_eq!(rt; class_after(1140), Some((1, 60)));
-        assert_eq!(rt; class_after(1141), Some((2, 61)));
-        assert_eq!(rt; class_after(1200), Some((2, 120)));
-        assert_eq!(rt; class_after(1201), None);
+        assert_eq!(rt; class_after(1080), class(0, 0));
+        assert_eq!(rt; class_after(1081), class(1, 1));
+        assert_eq!(rt; class_after(1140), class(1, 60));
+        assert_eq!(rt; class_after(1141), class(2, 61));
+        assert_eq!(rt; class_after(1200), class(2, 120));
+        assert_eq!(rt; class_after(1201), Widened::Forbidden);
     }
 
     #[test]
@@ -72,8 +73,13 @@ mod tests {
         }
         .write_body(&mut out);
         assert_eq!(rt; out, [2, 0, 0, 0, 0, 0, 0, 1, 2, 9]);
-        let back = Class::read_body(&out);
-        assert_eq!(rt; (back.class, back.minutes), (2, 258));
+        assert_eq!(rt;
+            Class::read_body(&out),
+            Class {
+                class: 2,
+                minutes: 258,
+            }
+        );
     }
 
     #[test]
@@ -95,13 +101,6 @@ mod tests {
 
     fn cell(minutes: u64) -> Widened<Total> {
         Widened::Allowed(Total { minutes })
-    }
-
-    fn minutes(cell: Widened<Total>) -> Option<u64> {
-        match cell {
-            Widened::Allowed(cost) => Some(cost.minutes),
-            Widened::Forbidden => None,
-        }
     }
 
     fn step(rows: u32, columns: u32, minutes: u64) -> Step<Total> {
@@ -127,13 +126,13 @@ mod tests {
             cells: &mut cells,
             size,
         };
-        assert_eq!(rt; minutes(table.cost(&[0, 1])), Some(8));
-        assert_eq!(rt; minutes(table.cost(&[1, 0])), Some(9));
+        assert_eq!(rt; table.cost(&[0, 1]), cell(8));
+        assert_eq!(rt; table.cost(&[1, 0]), cell(9));
         let steps = [step(2, 3, 4), step(3, 2, 4)];
         assert!(rt; table.amount_fits(step(2, 3, 4)));
         assert!(rt; !table.amount_fits(step(2, 3, 5)));
         table.apply_all(&steps);
-        assert_eq!(rt; value::<Total>(&steps, size).minutes, 8);
+        assert_eq!(rt; value(&steps, size), Total { minutes: 8 });
         assert_eq!(rt;
             table.first_not_absorbed(Total { minutes: 8 }, &[0, 1]),
             None
@@ -146,19 +145,28 @@ mod tests {
             rows: 1,
             columns: 2,
         };
-        let least = table.least(sets).expect(&rt, "a cell lies in both sets");
-        assert_eq!(rt;
-            (minutes(least.amount), least.row, least.column),
-            (Some(1), 0, 1)
-        );
+        let least = Least {
+            amount: cell(1),
+            row: 0,
+            column: 1,
+        };
+        assert_eq!(rt; table.least(sets), Some(least));
         let no_rows = Sets {
             rows: 0,
             columns: 2,
         };
-        assert!(rt; table.least(no_rows).is_none());
-        assert_eq!(rt; (minutes(cells[0]), minutes(cells[1])), (Some(0), Some(1)));
-        assert_eq!(rt; (minutes(cells[2]), minutes(cells[3])), (Some(0), Some(0)));
-        assert_eq!(rt; (minutes(cells[4]), minutes(cells[5])), (Some(7), None));
+        assert_eq!(rt; table.least(no_rows), None);
+        assert_eq!(rt;
+            cells,
+            [
+                cell(0),
+                cell(1),
+                cell(0),
+                cell(0),
+                cell(7),
+                Widened::Forbidden,
+            ]
+        );
     }
 
     // A cell that is not empty can be absorbed: a lower class adds nothing to a higher one.
