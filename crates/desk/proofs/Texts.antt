@@ -2,10 +2,6 @@
 use Rattle.std.proofs.Common.{◌≡◌, ℕ, ◌+◌, ◌<◌, List, [], ◌∷◌, length, get_or, drop, refl, ap, ◌∙◌, arith, Bor}
 use Rattle.words.proofs.Pieces.{nowhere, behind, length-behind}
 
-pub no_words : (parts : List (Bor (List ℕ))) → length parts ≡ 0 → behind parts ≡ []
-no_words [] h = refl
-no_words (p ∷ parts) h = absurd (omega arith)
-
 pub first_and_others : (parts : List (Bor (List ℕ))) → 0 < length parts → behind parts ≡ (get_or parts 0 nowhere).now ∷ behind (drop 1 parts)
 first_and_others [] h = absurd (omega arith)
 first_and_others (p ∷ parts) h = refl

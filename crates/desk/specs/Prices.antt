@@ -14,6 +14,7 @@ use Rattle.words.specs.declared.kinds.Kind.{Kind}
 use Rattle.words.specs.declared.kinds.Kind.TheVariants.{Total, Worst, Class}
 use Rattle.tables.specs.Rosters.{Roster}
 use Rattle.tables.specs.Tables.{chosen}
+use Rattle.desk.specs.declared.price.Link.{Link}
 use Rattle.desk.specs.declared.price.Price.{Price}
 use Rattle.desk.specs.declared.price.Price.TheVariants.{InTotal, InWorst, InClass}
 use Rattle.desk.specs.declared.price.Unpriced.{Unpriced}
@@ -26,6 +27,11 @@ no_duty = record { start = 0; finish = 0 }
 -- the cell of an earlier and a later duty, by the rest gauge
 abbrev pub gauged_grid : {C : Type 0} → Written C → List Duty → List Duty → ℕ → ℕ → Widened C
 gauged_grid w earlier later row column = gauged w (slice_index_or earlier row no_duty) (slice_index_or later column no_duty)
+
+-- the roster gives each earlier duty a later one of its own
+pub record Linked (link : Link) : Type 0 where
+  pub rows : length link.earlier.now ≡ length link.roster.now
+  pub roster : Roster (length link.later.now) link.roster.now
 
 abbrev pub Priced : Kind → List Duty → List Duty → List ℕ → Price → Type 0
 Priced Total earlier later columns (InTotal r) = CostOf Sum (chosen (gauged_grid total_written earlier later) columns) r

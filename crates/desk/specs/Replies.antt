@@ -5,6 +5,7 @@ use Rattle.words.specs.Words.{WordsOf, kind_name, NumberText, DutyText, ListText
 use Rattle.words.specs.declared.kinds.Kind.{Kind}
 use Rattle.desk.specs.Prices.{price_text, Named, Answered}
 use Rattle.desk.specs.Weighing.{TableWords, weigh_request, WeighReply, WeighError}
+use Rattle.desk.specs.declared.answers.PriceWords.{PriceWords as LentPriceWords}
 use Rattle.desk.specs.declared.faults.Fault.{Fault}
 use Rattle.desk.specs.declared.faults.Fault.TheVariants.{NotText, NoRequest, NotPrice, NotWeigh, InPrice, InWeigh, OutOfMemory}
 use Rattle.desk.specs.declared.faults.PriceFault.{PriceFault}
@@ -18,6 +19,10 @@ pub record PriceWords : Type 0 where
   pub earlier_word : List ℕ
   pub later_word : List ℕ
   pub roster_word : List ℕ
+
+-- the words behind the references
+abbrev pub price_words : LentPriceWords → PriceWords
+price_words lent = record { kind_word = lent.kind.now; earlier_word = lent.earlier.now; later_word = lent.later.now; roster_word = lent.roster.now }
 
 abbrev pub price_request : PriceWords → List (List ℕ)
 price_request q = codes "price" ∷ q.kind_word ∷ q.earlier_word ∷ q.later_word ∷ q.roster_word ∷ []

@@ -20,6 +20,7 @@ use Rattle.desk.specs.declared.price.Price.{Price}
 use Rattle.desk.specs.declared.price.Price.TheVariants.{InTotal, InWorst, InClass}
 use Rattle.desk.specs.declared.faults.WeighFault.{WeighFault}
 use Rattle.desk.specs.declared.faults.WeighFault.TheVariants.{NoKind, NoSize, NoCells, NoColumns, NotWeighed, NoMemoryLeft}
+use Rattle.desk.specs.declared.weigh.TableWords.{TableWords as LentTableWords}
 use Rattle.desk.specs.declared.weigh.Unweighed.{Unweighed}
 use Rattle.desk.specs.declared.weigh.Unweighed.TheVariants.{CellCount, NoRoster}
 
@@ -28,6 +29,10 @@ pub record TableWords : Type 0 where
   pub size_word : List ℕ
   pub cells_word : List ℕ
   pub roster_word : List ℕ
+
+-- the words behind the references
+abbrev pub table_words : LentTableWords → TableWords
+table_words lent = record { size_word = lent.size.now; cells_word = lent.cells.now; roster_word = lent.roster.now }
 
 abbrev pub weigh_request : List ℕ → TableWords → List (List ℕ)
 weigh_request kind_word q = codes "weigh" ∷ kind_word ∷ q.size_word ∷ q.cells_word ∷ q.roster_word ∷ []

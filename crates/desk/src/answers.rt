@@ -1,18 +1,26 @@
 // From a line to its answer.
-ghost use Rattle.std.specs.Prelude.{◌≡◌, ◌++◌, map, IfOk, string_bytes, codes};
-ghost use Rattle.desk.specs.Prices.{price_text};
-ghost use Rattle.desk.specs.Replies.{PriceAnswered, WordsReplied, Replied};
-ghost use Rattle.desk.specs.Weighing.{WeighAnswered};
+ghost use Rattle.std.specs.Prelude.{map};
+ghost use Rattle.desk.specs.Replies.{price_words, PriceAnswered, WordsReplied, Replied};
+ghost use Rattle.desk.specs.Weighing.{table_words, WeighAnswered};
 
 use crate::faults::{Fault, PriceFault, WeighFault};
-use crate::price::{Price, price_roster};
-use crate::weigh::weigh;
+use crate::price::Link;
+use crate::weigh::{TableWords, weigh};
 use costs::values::Duty;
-use std::alloc::{AllocError, Global};
+use std::alloc::Global;
 use std::str::from_utf8;
 use words::cut::cut_words;
 use words::kinds::Kind;
 use words::lists::list_or;
+
+// The words of a price request.
+#[derive(Clone, Copy, Debug, PartialEq, Eq)]
+pub struct PriceWords<'a> {
+    pub kind: &'a str,
+    pub earlier: &'a str,
+    pub later: &'a str,
+    pub roster: &'a str,
+}
 
 // The answer to a line; none to an empty line or a comment.
 pub fn answer(heap: Global, line: &[u8]) -> Result<Option<String>, Fault>
@@ -21,9 +29,7 @@ pub fn answer(heap: Global, line: &[u8]) -> Result<Option<String>, Fault>
     if line.starts_with(b"#") {
         return Ok(None);
     }
-    let Ok(text) = from_utf8(line) else {
-        return Err(Fault::NotText);
-    };
+    let text = from_utf8(line).map_err(|_| Fault::NotText)?;
     let words = cut_words(heap, text)?;
     answer_words(heap, words.as_slice())
 }
@@ -31,94 +37,62 @@ pub fn answer(heap: Global, line: &[u8]) -> Result<Option<String>, Fault>
 fn answer_words(heap: Global, words: &[&str]) -> Result<Option<String>, Fault>
     ensures { WordsReplied (map (λ x. x.now) words.now) result }
 {
-    if words.is_empty() {
-        return Ok(None);
-    }
-    if words[0] == "price" {
-        if words.len() != 5 {
-            return Err(Fault::NotPrice);
+    match words {
+        [] => Ok(None),
+        ["price", kind, earlier, later, roster] => {
+            let words = PriceWords {
+                kind,
+                earlier,
+                later,
+                roster,
+            };
+            Ok(Some(answer_price(heap, words).map_err(Fault::InPrice)?))
         }
-        return match answer_price(heap, words[1], words[2], words[3], words[4]) {
-            Ok(text) => Ok(Some(text)),
-            Err(why) => Err(Fault::InPrice(why)),
-        };
-    }
-    if words[0] == "weigh" {
-        if words.len() != 5 {
-            return Err(Fault::NotWeigh);
+        ["price", ..] => Err(Fault::NotPrice),
+        ["weigh", kind, size, cells, roster] => {
+            let words = TableWords {
+                size,
+                cells,
+                roster,
+            };
+            Ok(Some(answer_weigh(heap, kind, words).map_err(Fault::InWeigh)?))
         }
-        return match answer_weigh(heap, words[1], words[2], words[3], words[4]) {
-            Ok(text) => Ok(Some(text)),
-            Err(why) => Err(Fault::InWeigh(why)),
-        };
-    }
-    Err(Fault::NoRequest)
-}
-
-fn price_text(heap: Global, price: Price) -> Result<String, AllocError>
-    ensures { IfOk result (λ s. string_bytes s ≡ codes "ok " ++ price_text price) }
-{
-    match price {
-        Price::InTotal(cost) => format!(in heap; "ok {cost}"),
-        Price::InWorst(cost) => format!(in heap; "ok {cost}"),
-        Price::InClass(cost) => format!(in heap; "ok {cost}"),
+        ["weigh", ..] => Err(Fault::NotWeigh),
+        _ => Err(Fault::NoRequest),
     }
 }
 
-fn answer_price(
-    heap: Global,
-    kind: &str,
-    earlier: &str,
-    later: &str,
-    roster: &str,
-) -> Result<String, PriceFault>
-    ensures { PriceAnswered (record { kind_word = kind.now; earlier_word = earlier.now; later_word = later.now; roster_word = roster.now }) result }
+fn answer_price(heap: Global, words: PriceWords) -> Result<String, PriceFault>
+    ensures { PriceAnswered (price_words words.entry) result }
 {
-    let Ok(kind) = kind.parse::<Kind>() else {
-        return Err(PriceFault::NoKind);
-    };
-    let earlier = list_or::<Duty, PriceFault>(
+    let kind = words.kind.parse::<Kind>().map_err(|_| PriceFault::NoKind)?;
+    let duties = |word| list_or::<Duty, PriceFault>(
         heap,
-        earlier,
+        word,
         PriceFault::NoDuties,
         PriceFault::NoMemoryLeft,
-    )?;
-    let later = list_or::<Duty, PriceFault>(
+    );
+    let earlier = duties(words.earlier)?;
+    let later = duties(words.later)?;
+    let columns = list_or(
         heap,
-        later,
-        PriceFault::NoDuties,
-        PriceFault::NoMemoryLeft,
-    )?;
-    let columns = list_or::<u8, PriceFault>(
-        heap,
-        roster,
+        words.roster,
         PriceFault::NoColumns,
         PriceFault::NoMemoryLeft,
     )?;
-    match price_roster(
-        heap,
-        kind,
-        earlier.as_slice(),
-        later.as_slice(),
-        columns.as_slice(),
-    ) {
-        Ok(price) => Ok(price_text(heap, price)?),
-        Err(why) => Err(PriceFault::NotPriced(why)),
-    }
+    let link = Link {
+        earlier: earlier.as_slice(),
+        later: later.as_slice(),
+        roster: columns.as_slice(),
+    };
+    let price = link.price(heap, kind).map_err(PriceFault::NotPriced)?;
+    Ok(format!(in heap; "ok {price}")?)
 }
 
-fn answer_weigh(
-    heap: Global,
-    kind: &str,
-    size: &str,
-    cells: &str,
-    roster: &str,
-) -> Result<String, WeighFault>
-    ensures { WeighAnswered kind.now (record { size_word = size.now; cells_word = cells.now; roster_word = roster.now }) result }
+fn answer_weigh(heap: Global, kind: &str, words: TableWords) -> Result<String, WeighFault>
+    ensures { WeighAnswered kind.now (table_words words.entry) result }
 {
-    let Ok(kind) = kind.parse::<Kind>() else {
-        return Err(WeighFault::NoKind);
-    };
-    let price = weigh(heap, kind, size, cells, roster)?;
-    Ok(price_text(heap, price)?)
+    let kind = kind.parse::<Kind>().map_err(|_| WeighFault::NoKind)?;
+    let price = weigh(heap, kind, words)?;
+    Ok(format!(in heap; "ok {price}")?)
 }

@@ -7,35 +7,58 @@ ghost use Rattle.desk.specs.declared.faults.WeighFault.TheVariants.{NoMemoryLeft
 use crate::price::Unpriced;
 use crate::weigh::Unweighed;
 use std::alloc::AllocError;
-use std::fmt;
+use thiserror::Error;
+use words::kinds::UnknownKind;
 
-#[derive(Clone, Copy)]
+const COLUMN_LIST: &str = "expected a roster as COLUMN,COLUMN,..";
+
+pub(crate) const MORE_MEMORY: &str = "expected more memory than there is";
+
+#[derive(Clone, Copy, Debug, PartialEq, Eq, Error)]
 pub enum PriceFault {
+    #[error("{UnknownKind}")]
     NoKind,
+    #[error("expected duties as START-FINISH,START-FINISH,..")]
     NoDuties,
+    #[error("{COLUMN_LIST}")]
     NoColumns,
+    #[error(transparent)]
     NotPriced(Unpriced),
+    #[error("{MORE_MEMORY}")]
     NoMemoryLeft,
 }
 
-#[derive(Clone, Copy)]
+#[derive(Clone, Copy, Debug, PartialEq, Eq, Error)]
 pub enum WeighFault {
+    #[error("{UnknownKind}")]
     NoKind,
+    #[error("expected 1 to 32 rows")]
     NoSize,
+    #[error("expected cells as COST,COST,.., each a number (in class CLASS:MINUTES) or - for forbidden")]
     NoCells,
+    #[error("{COLUMN_LIST}")]
     NoColumns,
+    #[error(transparent)]
     NotWeighed(Unweighed),
+    #[error("{MORE_MEMORY}")]
     NoMemoryLeft,
 }
 
-#[derive(Clone, Copy)]
+#[derive(Clone, Copy, Debug, PartialEq, Eq, Error)]
 pub enum Fault {
+    #[error("expected text in UTF-8")]
     NotText,
+    #[error("expected a request: price or weigh")]
     NoRequest,
+    #[error("expected price KIND EARLIER LATER ROSTER")]
     NotPrice,
+    #[error("expected weigh KIND N CELLS ROSTER")]
     NotWeigh,
+    #[error(transparent)]
     InPrice(PriceFault),
+    #[error(transparent)]
     InWeigh(WeighFault),
+    #[error("{MORE_MEMORY}")]
     OutOfMemory,
 }
 
@@ -60,80 +83,5 @@ impl From<AllocError> for Fault {
 
     fn from(_e: AllocError) -> Fault {
         Fault::OutOfMemory
-    }
-}
-
-const KIND_NAME: &str = "expected the kind total, worst or class";
-
-const COLUMN_LIST: &str = "expected a roster as COLUMN,COLUMN,..";
-
-const MORE_MEMORY: &str = "expected more memory than there is";
-
-impl Unpriced {
-    fn message(self) -> &'static str {
-        match self {
-            Unpriced::DutyCount => "expected 1 to 32 duties",
-            Unpriced::LaterCount => "expected as many later duties as earlier ones",
-            Unpriced::DutyTimes => "expected times up to 1439, and no finish before its start",
-            Unpriced::NoRoster =>
-                "expected a column below the number of duties for each duty, and none twice",
-            Unpriced::NoMemory => MORE_MEMORY,
-        }
-    }
-}
-
-impl PriceFault {
-    fn message(self) -> &'static str {
-        match self {
-            PriceFault::NoKind => KIND_NAME,
-            PriceFault::NoDuties => "expected duties as START-FINISH,START-FINISH,..",
-            PriceFault::NoColumns => COLUMN_LIST,
-            PriceFault::NotPriced(why) => why.message(),
-            PriceFault::NoMemoryLeft => MORE_MEMORY,
-        }
-    }
-}
-
-impl Unweighed {
-    fn message(self) -> &'static str {
-        match self {
-            Unweighed::CellCount => "expected a cell for each row and column, row by row",
-            Unweighed::NoRoster =>
-                "expected a column below the number of rows for each row, and none twice",
-        }
-    }
-}
-
-impl WeighFault {
-    fn message(self) -> &'static str {
-        match self {
-            WeighFault::NoKind => KIND_NAME,
-            WeighFault::NoSize => "expected 1 to 32 rows",
-            WeighFault::NoCells =>
-                "expected cells as COST,COST,.., each a number (in class CLASS:MINUTES) or - for forbidden",
-            WeighFault::NoColumns => COLUMN_LIST,
-            WeighFault::NotWeighed(why) => why.message(),
-            WeighFault::NoMemoryLeft => MORE_MEMORY,
-        }
-    }
-}
-
-impl Fault {
-    fn message(self) -> &'static str {
-        match self {
-            Fault::NotText => "expected text in UTF-8",
-            Fault::NoRequest => "expected a request: price or weigh",
-            Fault::NotPrice => "expected price KIND EARLIER LATER ROSTER",
-            Fault::NotWeigh => "expected weigh KIND N CELLS ROSTER",
-            Fault::InPrice(why) => why.message(),
-            Fault::InWeigh(why) => why.message(),
-            Fault::OutOfMemory => MORE_MEMORY,
-        }
-    }
-}
-
-impl fmt::Display for Fault {
-    fn fmt<W: fmt::Write>(&self, f: &mut fmt::Formatter<W>) -> fmt::Result {
-        f.write_str(self.message())
     }
 }

@@ -1,10 +1,12 @@
 // Lines of bounded length: the memory for one line is got once, and no line can use up more.
-ghost use Rattle.std.specs.Prelude.{◌≡◌, ◌≤◌, [], ◌∷◌, ◌++◌, IfOk, if◌then◌else◌, vec_len, vec_capacity, nat_lt};
+ghost use Rattle.std.specs.Prelude.{◌≡◌, ◌≤◌, ℕ, List, [], ◌∷◌, ◌++◌, length, IfOk, OnOk, OnErr, vec_len, vec_capacity};
 ghost use Rattle.desk.specs.Lines.{Holds};
 
 use std::alloc::{AllocError, Global};
 use std::io;
-use std::io::{ErrorKind, Read};
+use std::io::Read;
+use std::marker::Model;
+use thiserror::Error;
 
 pub const LINE_LIMIT: usize = 1_048_576;
 
@@ -17,70 +19,58 @@ pub struct Line {
     ghost few: { vec_len bytes ≤ 1_048_576 },
 }
 
-#[derive(Clone, Copy)]
-pub enum Next {
-    Whole,
-    TooLong,
-    End,
+// A line is the bytes that are kept of it.
+impl Model for Line {
+    ghost Value = { List ℕ };
+
+    ghost view = { λ line. line.bytes.items };
 }
 
-// The next byte of the input, or none at its end. A read that a signal interrupts is made again.
-fn next_byte<R: Read>(input: &mut R) -> io::Result<Option<u8>> {
-    for _ in 0..u64::MAX {
-        let mut byte = [0u8; 1];
-        match input.read(&mut byte) {
-            Ok(0) => return Ok(None),
-            Ok(_) => return Ok(Some(byte[0])),
-            Err(e) if e.kind() == ErrorKind::Interrupted => {}
-            Err(e) => return Err(e),
-        }
-    }
-    Ok(None)
-}
+#[derive(Clone, Copy, Debug, PartialEq, Eq, Error)]
+#[error("expected a line of at most {LINE_LIMIT} bytes")]
+pub struct TooLong;
 
 impl Line {
-    pub fn new(heap: Global) -> Result<Line, AllocError> {
+    pub fn new(heap: Global) -> Result<Line, AllocError>
+        ensures { IfOk result (λ line. line ≡ []) }
+    {
         let bytes = Vec::with_capacity(heap, LINE_LIMIT)?;
         Ok(Line { bytes })
     }
 
     pub fn as_slice(&self) -> &[u8]
-        ensures { result.now ≡ self.now.bytes.items }
+        ensures items { result.now ≡ self.now }
+        ensures few { length result.now ≤ 1_048_576 }
     {
         self.bytes.as_slice()
     }
 
     // Adds a byte, or answers that there is no room for it.
-    fn keep(&mut self, byte: u8) -> bool
-        ensures room { result ≡ nat_lt (vec_len self.old.bytes) 1_048_576 }
-        ensures items { self.new.bytes.items ≡ (if result then self.old.bytes.items ++ byte ∷ [] else self.old.bytes.items) }
+    fn keep(&mut self, byte: u8) -> Result<(), TooLong>
+        ensures room { OnOk result (self.new ≡ self.old ++ byte ∷ []) }
+        ensures full { OnErr result (length self.old ≡ 1_048_576) }
+        ensures same { OnErr result (self.new ≡ self.old) }
+        ensures few { length self.new ≤ 1_048_576 }
     {
-        let room = self.bytes.len() < LINE_LIMIT;
-        if room {
-            self.bytes.push_reserved(byte);
+        if self.bytes.len() == LINE_LIMIT {
+            return Err(TooLong);
         }
-        room
+        self.bytes.push_reserved(byte);
+        Ok(())
     }
 
-    // Reads up to the next end of a line. The input may end in the middle of a line, which then counts as a whole one.
-    pub fn read<R: Read>(&mut self, input: &mut R) -> io::Result<Next>
-        ensures { IfOk result (λ next. Holds next self.new.bytes.items) }
+    // Reads up to the next end of a line, if any byte is left. The input may end in the middle of a line, which then counts as a whole one.
+    pub fn read<R: Read>(&mut self, input: &mut R) -> io::Result<Option<Result<(), TooLong>>>
+        ensures { IfOk result (λ read. Holds read self.new) }
     {
         self.bytes.clear();
-        let mut fits = true;
-        for _ in 0..u64::MAX {
-            match next_byte(input)? {
-                None if self.bytes.is_empty() => return Ok(Next::End),
-                None => break,
-                Some(byte) => {
-                    if byte == LINE_END {
-                        break;
-                    }
-                    let kept = self.keep(byte);
-                    fits = fits && kept;
-                }
+        let mut kept = Ok(());
+        for byte in input.bytes() {
+            match byte? {
+                LINE_END => return Ok(Some(kept)),
+                byte => kept = kept.and(self.keep(byte)),
             }
         }
-        Ok(if fits { Next::Whole } else { Next::TooLong })
+        Ok((!self.bytes.is_empty()).then_some(kept))
     }
 }

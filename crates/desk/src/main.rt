@@ -8,7 +8,7 @@ mod price;
 mod weigh;
 
 use answers::answer;
-use lines::{LINE_LIMIT, Line, Next};
+use lines::Line;
 use std::io;
 use std::io::BufReader;
 
@@ -23,11 +23,12 @@ fn reply(rt: &HostRuntime, line: &[u8]) -> io::Result<()> {
 fn main(rt: HostRuntime) -> io::Result<()> {
     let mut input = BufReader::new(rt.alloc(), rt.stdin())?;
     let mut line = Line::new(rt.alloc())?;
+    // A counted loop: a `while let` has no measure here, since nothing says that the input ends.
     for _ in 0..u64::MAX {
         match line.read(&mut input)? {
-            Next::Whole => reply(&rt, line.as_slice())?,
-            Next::TooLong => println!(rt; "error: expected a line of at most {LINE_LIMIT} bytes")?,
-            Next::End => break,
+            Some(Ok(())) => reply(&rt, line.as_slice())?,
+            Some(Err(too_long)) => println!(rt; "error: {too_long}")?,
+            None => break,
         }
     }
     Ok(())

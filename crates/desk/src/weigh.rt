@@ -1,25 +1,28 @@
 // `weigh`: what a roster by hand costs in a table by hand.
 ghost use Rattle.std.specs.Prelude.{◌≡◌, ℕ, MatchOption};
 ghost use Rattle.costs.specs.Plain.{CostOf};
-ghost use Rattle.desk.specs.Weighing.{SizeText, TableWeighed, WordsWeighed, KindWeighed};
+ghost use Rattle.desk.specs.Weighing.{table_words, SizeText, TableWeighed, WordsWeighed, KindWeighed};
 
 use crate::faults::WeighFault;
 use crate::price::Price;
 use costs::kind::PlainKind;
-use costs::values::{Class, Total, Widened, Worst};
+use costs::values::Widened;
 use std::alloc::Global;
 use tables::rosters::is_roster;
 use tables::table::Table;
 use tables::values::Size;
+use thiserror::Error;
 use words::items::Item;
 use words::kinds::Kind;
 use words::lists::list_or;
 use words::numbers::number;
 
 // Why a roster has no cost in a table.
-#[derive(Clone, Copy)]
+#[derive(Clone, Copy, Debug, PartialEq, Eq, Error)]
 pub enum Unweighed {
+    #[error("expected a cell for each row and column, row by row")]
     CellCount,
+    #[error("expected a column below the number of rows for each row, and none twice")]
     NoRoster,
 }
 
@@ -27,10 +30,7 @@ pub enum Unweighed {
 fn read_size(word: &str) -> Option<Size>
     ensures { MatchOption result ((n : ℕ) → SizeText word.now n → ⊥) (λ size. SizeText word.now size.n) }
 {
-    let Some(n) = number(word) else {
-        return None;
-    };
-    Size::of(n as usize)
+    Size::of(number(word)? as usize)
 }
 
 fn weigh_table<K: PlainKind>(
@@ -52,58 +52,44 @@ fn weigh_table<K: PlainKind>(
     Ok(table.cost(roster))
 }
 
+// The words for a table and a roster.
+#[derive(Clone, Copy, Debug, PartialEq, Eq)]
+pub struct TableWords<'a> {
+    pub size: &'a str,
+    pub cells: &'a str,
+    pub roster: &'a str,
+}
+
 // The cost in one kind, or the first word that cannot be read, or what is wrong with the table and the roster.
 fn weigh_words<K: PlainKind + Item>(
     heap: Global,
-    size: &str,
-    cells: &str,
-    roster: &str,
+    words: TableWords,
 ) -> Result<Widened<K>, WeighFault>
-    ensures { WordsWeighed K.operations K.text (CostOf K.means) (record { size_word = size.now; cells_word = cells.now; roster_word = roster.now }) result }
+    ensures { WordsWeighed K.operations K.text (CostOf K.means) (table_words words.entry) result }
 {
-    let Some(size) = read_size(size) else {
-        return Err(WeighFault::NoSize);
-    };
-    let mut cells = list_or::<Widened<K>, WeighFault>(
+    let size = read_size(words.size).ok_or(WeighFault::NoSize)?;
+    let mut cells = list_or(
         heap,
-        cells,
+        words.cells,
         WeighFault::NoCells,
         WeighFault::NoMemoryLeft,
     )?;
-    let columns = list_or::<u8, WeighFault>(
+    let columns = list_or(
         heap,
-        roster,
+        words.roster,
         WeighFault::NoColumns,
         WeighFault::NoMemoryLeft,
     )?;
-    match weigh_table(size, cells.as_mut_slice(), columns.as_slice()) {
-        Ok(cost) => Ok(cost),
-        Err(why) => Err(WeighFault::NotWeighed(why)),
-    }
+    weigh_table(size, cells.as_mut_slice(), columns.as_slice()).map_err(WeighFault::NotWeighed)
 }
 
 // The cost in the named kind.
-pub fn weigh(
-    heap: Global,
-    kind: Kind,
-    size: &str,
-    cells: &str,
-    roster: &str,
-) -> Result<Price, WeighFault>
-    ensures { KindWeighed kind (record { size_word = size.now; cells_word = cells.now; roster_word = roster.now }) result }
+pub fn weigh(heap: Global, kind: Kind, words: TableWords) -> Result<Price, WeighFault>
+    ensures { KindWeighed kind (table_words words.entry) result }
 {
     match kind {
-        Kind::Total => match weigh_words::<Total>(heap, size, cells, roster) {
-            Ok(cost) => Ok(Price::InTotal(cost)),
-            Err(why) => Err(why),
-        },
-        Kind::Worst => match weigh_words::<Worst>(heap, size, cells, roster) {
-            Ok(cost) => Ok(Price::InWorst(cost)),
-            Err(why) => Err(why),
-        },
-        Kind::Class => match weigh_words::<Class>(heap, size, cells, roster) {
-            Ok(cost) => Ok(Price::InClass(cost)),
-            Err(why) => Err(why),
-        },
+        Kind::Total => weigh_words(heap, words).map(Price::InTotal),
+        Kind::Worst => weigh_words(heap, words).map(Price::InWorst),
+        Kind::Class => weigh_words(heap, words).map(Price::InClass),
     }
 }

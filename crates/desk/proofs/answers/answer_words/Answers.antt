@@ -1,49 +1,35 @@
-use Rattle.std.proofs.Common.{ℕ, List, drop, codes, inl, inr, sym, ◌∙◌, arith, Bor}
-use Rattle.std.specs.Cmp.Lexicographic.{same_text, other_text}
+use Rattle.std.proofs.Common.{drop, codes, inl, inr, arith}
 use Rattle.words.proofs.Pieces.{behind}
-use Rattle.desk.specs.Replies.{PriceWords}
-use Rattle.desk.specs.Weighing.{TableWords}
-use Rattle.desk.proofs.Texts.{no_words, first_and_others, word, five_of, not_five_of}
+use Rattle.desk.specs.declared.faults.Fault.TheVariants.{InPrice, InWeigh}
+use Rattle.desk.proofs.Mapped.{same_ok, made_err}
+use Rattle.desk.proofs.Texts.{first_and_others, word, five_of, not_five_of}
 use Rattle.desk.proofs.answers.answer_words.Goals as goal
 
--- the words of a price request behind the first
-abbrev asked_price : List (Bor (List ℕ)) → PriceWords
-asked_price words = record { kind_word = word words 1; earlier_word = word words 2; later_word = word words 3; roster_word = word words 4 }
+pub returns-in_ok-map_err-in-price : goal.returns-in_ok-map_err-in-price
+returns-in_ok-map_err-in-price c =
+    let parts = c.args.words.now in
+    let same = same_ok InPrice _ _ _ c.map_err.ensures.cases c.in_ok-map_err-in-price.was in
+    inl (_, five_of parts (codes "price") c.in-price.is-price (omega arith), (rw same at c.answer_price.ensures))
 
--- and those of a weigh request behind the kind
-abbrev asked_weigh : List (Bor (List ℕ)) → TableWords
-asked_weigh words = record { size_word = word words 2; cells_word = word words 3; roster_word = word words 4 }
+pub returns-in-price-2 : goal.returns-in-price-2
+returns-in-price-2 c = not_five_of c.args.words.now (codes "price") c.in-price-2.is-price (grind arith) (λ five. grind arith)
 
-pub returns-then-is_empty : goal.returns-then-is_empty
-returns-then-is_empty c = no_words c.args.words.now (grind arith)
+pub returns-in_ok-map_err-in-weigh : goal.returns-in_ok-map_err-in-weigh
+returns-in_ok-map_err-in-weigh c =
+    let parts = c.args.words.now in
+    let same = same_ok InWeigh _ _ _ c.map_err-in-weigh.ensures.cases c.in_ok-map_err-in-weigh.was in
+    inr (word parts 1, _, five_of parts (codes "weigh") c.in-weigh.is-weigh (omega arith), (rw same at c.answer_weigh.ensures))
 
-pub returns-then-words-ne5 : goal.returns-then-words-ne5
-returns-then-words-ne5 c = not_five_of c.args.words.now (codes "price") (same_text _ _ (sym c.if-eq.true ∙ c.eq.ensures)) (grind arith) c.if-words-ne5.true
+pub returns-in_err-map_err-in-weigh : goal.returns-in_err-map_err-in-weigh
+returns-in_err-map_err-in-weigh c =
+    let parts = c.args.words.now in
+    let why = made_err InWeigh _ _ _ c.from_residual-in_err-map_err-in-weigh.result c.map_err-in-weigh.ensures.cases c.in_err-map_err-in-weigh.was c.from_residual-in_err-map_err-in-weigh.ensures.1 in
+    rw why.2 (word parts 1, _, five_of parts (codes "weigh") c.in-weigh.is-weigh (omega arith), (rw why.1 at c.answer_weigh.ensures))
 
-pub returns-in-Ok : goal.returns-in-Ok
-returns-in-Ok c =
-    let words = c.args.words.now in
-    inl (asked_price words, five_of words (codes "price") (same_text _ _ (sym c.if-eq.true ∙ c.eq.ensures)) c.if-words-ne5.false, c.in-Ok.ensures)
+pub returns-in-weigh-2 : goal.returns-in-weigh-2
+returns-in-weigh-2 c = not_five_of c.args.words.now (codes "weigh") c.in-weigh-2.is-weigh (grind arith) (λ five. grind arith)
 
-pub returns-in-Err : goal.returns-in-Err
-returns-in-Err c =
-    let words = c.args.words.now in
-    (asked_price words, five_of words (codes "price") (same_text _ _ (sym c.if-eq.true ∙ c.eq.ensures)) c.if-words-ne5.false, c.in-Err.ensures)
-
-pub returns-then-words-ne5-2 : goal.returns-then-words-ne5-2
-returns-then-words-ne5-2 c = not_five_of c.args.words.now (codes "weigh") (same_text _ _ (sym c.if-eq-2.true ∙ c.eq-2.ensures)) (grind arith) c.if-words-ne5-2.true
-
-pub returns-in-Ok-answer_weigh : goal.returns-in-Ok-answer_weigh
-returns-in-Ok-answer_weigh c =
-    let words = c.args.words.now in
-    inr (word words 1, asked_weigh words, five_of words (codes "weigh") (same_text _ _ (sym c.if-eq-2.true ∙ c.eq-2.ensures)) c.if-words-ne5-2.false, c.in-Ok-answer_weigh.ensures)
-
-pub returns-in-Err-answer_weigh : goal.returns-in-Err-answer_weigh
-returns-in-Err-answer_weigh c =
-    let words = c.args.words.now in
-    (word words 1, asked_weigh words, five_of words (codes "weigh") (same_text _ _ (sym c.if-eq-2.true ∙ c.eq-2.ensures)) c.if-words-ne5-2.false, c.in-Err-answer_weigh.ensures)
-
-pub returns : goal.returns
-returns c =
-    let words = c.args.words.now in
-    (word words 0, behind (drop 1 words), first_and_others words (grind arith), other_text _ _ (sym c.if-eq.false ∙ c.eq.ensures), other_text _ _ (sym c.if-eq-2.false ∙ c.eq-2.ensures))
+pub returns-in_default : goal.returns-in_default
+returns-in_default c =
+    let parts = c.args.words.now in
+    (word parts 0, behind (drop 1 parts), first_and_others parts (grind arith), (λ e. grind arith), (λ e. grind arith))
