@@ -40,7 +40,7 @@ impl Line {
 
     pub fn as_slice(&self) -> &[u8]
         ensures items { result.now ≡ self.now }
-        ensures few { length result.now ≤ 1_048_576 }
+        ensures few { length result.now ≤ LINE_LIMIT }
     {
         self.bytes.as_slice()
     }
@@ -48,9 +48,9 @@ impl Line {
     // Adds a byte, or answers that there is no room for it.
     fn keep(&mut self, byte: u8) -> Result<(), TooLong>
         ensures room { OnOk result (self.new ≡ self.old ++ byte ∷ []) }
-        ensures full { OnErr result (length self.old ≡ 1_048_576) }
+        ensures full { OnErr result (length self.old ≡ LINE_LIMIT) }
         ensures same { OnErr result (self.new ≡ self.old) }
-        ensures few { length self.new ≤ 1_048_576 }
+        ensures few { length self.new ≤ LINE_LIMIT }
     {
         if self.bytes.len() == LINE_LIMIT {
             return Err(TooLong);
