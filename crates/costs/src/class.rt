@@ -110,7 +110,7 @@ impl WrittenKind for Class {
     }
 
     fn may_stand(self) -> bool {
-        self.class <= 9 && self.minutes <= CELL_MINUTES as u64
+        self.class <= 9 && self.minutes <= u64::from(CELL_MINUTES)
     }
 
     fn shortage(minutes: u16) -> Class {
@@ -120,7 +120,7 @@ impl WrittenKind for Class {
                 1..=60 => 1,
                 _ => 2,
             },
-            minutes: minutes as u64,
+            minutes: u64::from(minutes),
         }
     }
 }

@@ -30,7 +30,7 @@ pub fn well_formed(duties: &[Duty], n: usize) -> bool
 pub fn rest_between(earlier: Duty, later: Duty) -> u32
     ensures { result ≡ rest_minutes earlier later }
 {
-    (later.start as u32 + DAY).saturating_sub(earlier.finish as u32)
+    (u32::from(later.start) + DAY).saturating_sub(u32::from(earlier.finish))
 }
 
 // The cost of the later duty after the earlier one.

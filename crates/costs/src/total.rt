@@ -69,12 +69,12 @@ impl WrittenKind for Total {
     }
 
     fn may_stand(self) -> bool {
-        self.minutes <= CELL_MINUTES as u64
+        self.minutes <= u64::from(CELL_MINUTES)
     }
 
     fn shortage(minutes: u16) -> Total {
         Total {
-            minutes: minutes as u64,
+            minutes: u64::from(minutes),
         }
     }
 }

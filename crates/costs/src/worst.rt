@@ -70,7 +70,7 @@ impl WrittenKind for Worst {
 
     fn shortage(minutes: u16) -> Worst {
         Worst {
-            minutes: minutes as u32,
+            minutes: u32::from(minutes),
         }
     }
 }

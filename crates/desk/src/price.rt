@@ -68,7 +68,7 @@ impl<'a> Link<'a> {
         self.earlier
             .iter()
             .zip(self.roster)
-            .map(|(duty, column)| rest_cost(*duty, self.later[*column as usize]))
+            .map(|(duty, column)| rest_cost(*duty, self.later[usize::from(*column)]))
             .collect(heap)
     }
 
@@ -85,6 +85,7 @@ impl<'a> Link<'a> {
         requires { Linked self }
         ensures { IfOk result (λ p. Priced kind self.entry.earlier.now self.entry.later.now self.entry.roster.now p) }
     {
+        // Each arm picks a type of cost, which no closure or table of functions could.
         match kind {
             Kind::Total => Ok(Price::InTotal(self.cost(heap)?)),
             Kind::Worst => Ok(Price::InWorst(self.cost(heap)?)),

@@ -30,7 +30,7 @@ pub enum Unweighed {
 fn read_size(word: &str) -> Option<Size>
     ensures { MatchOption result ((n : ℕ) → SizeText word.now n → ⊥) (λ size. SizeText word.now size.n) }
 {
-    Size::of(number(word)? as usize)
+    Size::of(usize::try_from(number(word)?).ok()?)
 }
 
 fn weigh_table<K: PlainKind>(
@@ -87,6 +87,7 @@ fn weigh_words<K: PlainKind + Item>(
 pub fn weigh(heap: Global, kind: Kind, words: TableWords) -> Result<Price, WeighFault>
     ensures { KindWeighed kind (table_words words.entry) result }
 {
+    // Each arm picks a type of cost, which no closure or table of functions could.
     match kind {
         Kind::Total => weigh_words(heap, words).map(Price::InTotal),
         Kind::Worst => weigh_words(heap, words).map(Price::InWorst),

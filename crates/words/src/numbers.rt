@@ -7,6 +7,7 @@ ghost use Rattle.words.specs.Words.{NumberText, PairText};
 pub fn number(word: &str) -> Option<u64>
     ensures { MatchOption result ((n : ℕ) → NumberText 64 word.now n → ⊥) (λ n. NumberText 64 word.now n) }
 {
+    // `parse` would take it.
     if word.starts_with('+') {
         return None;
     }
