@@ -1,5 +1,5 @@
 -- Class: the highest class counts, with its minutes. Assumes nothing.
-use Rattle.std.specs.Prelude.{ℕ, ◌+◌, ◌-◌, ◌^◌, ◌<◌, Bool, true, false, cond, ◌&&◌, ◌||◌, ◌∷◌, ◌==◌, nat_le, nat_lt}
+use Rattle.std.specs.Prelude.{ℕ, ◌+◌, ◌-◌, ◌^◌, ◌<◌, Bool, true, false, ◌&&◌, ◌||◌, ◌∷◌, ◌==◌, nat_le, nat_lt, if◌then◌else◌}
 use Rattle.std.proofs.Common.{arith}
 use Rattle.costs.specs.Bytes.{big_endian}
 use Rattle.costs.specs.Kinds.{Operations}
@@ -26,16 +26,16 @@ class_at_most a b = nat_lt a.class b.class || (a.class == b.class && nat_le a.mi
 abbrev pub class_operations : Operations Class
 class_operations = record {
   empty = no_class;
-  compose = λ a b. cond (nat_lt a.class b.class) b (cond (nat_lt b.class a.class) a (added a b));
+  compose = λ a b. if nat_lt a.class b.class then b else if nat_lt b.class a.class then a else added a b;
   at_most = class_at_most;
-  rest = λ a b. cond (class_at_most a b) (cond (a.class == b.class) (difference a b) b) no_class;
+  rest = λ a b. if class_at_most a b then if a.class == b.class then difference a b else b else no_class;
 }
 
 -- no shortage has no class, up to 60 minutes are of class 1, and more are of class 2
 abbrev pub shortage_class : ℕ → ℕ
-shortage_class m = cond (m == 0) 0 (cond (nat_le m 60) 1 2)
+shortage_class m = if m == 0 then 0 else if nat_le m 60 then 1 else 2
 
-pub shortage_class_small : (none few : Bool) → cond none 0 (cond few 1 2) < 2 ^ 8
+pub shortage_class_small : (none few : Bool) → (if none then 0 else if few then 1 else 2) < 2 ^ 8
 shortage_class_small true few = omega arith
 shortage_class_small false true = omega arith
 shortage_class_small false false = omega arith

@@ -1,5 +1,5 @@
 -- The rest gauge: from two duties to the cost of driving one after the other. Assumes nothing.
-use Rattle.std.specs.Prelude.{◌≡◌, ℕ, ◌+◌, ◌-◌, ◌≤◌, cond, List, length, nat_lt}
+use Rattle.std.specs.Prelude.{◌≡◌, ℕ, ◌+◌, ◌-◌, ◌≤◌, List, length, nat_lt, if◌then◌else◌}
 use Rattle.std.specs.List.{AllByRecursion}
 use Rattle.costs.specs.Written.{Written}
 use Rattle.costs.specs.declared.values.Duty.{Duty}
@@ -28,4 +28,4 @@ shortage_of rest = 720 - rest
 -- a rest under 600 minutes is forbidden, and any other costs its shortage
 abbrev pub gauged : {C : Type 0} → Written C → Duty → Duty → Widened C
 gauged w earlier later =
-    cond (nat_lt (rest_minutes earlier later) 600) Forbidden (Allowed (w.shortage (shortage_of (rest_minutes earlier later))))
+    if nat_lt (rest_minutes earlier later) 600 then Forbidden else Allowed (w.shortage (shortage_of (rest_minutes earlier later)))

@@ -1,5 +1,5 @@
 -- What a row of cells costs, in whole numbers. Assumes nothing.
-use Rattle.std.specs.Prelude.{◌≡◌, ℕ, ◌*◌, ◌≤◌, max, true, cond, List, [], ◌∷◌, map, length, sum_by, ◌==◌}
+use Rattle.std.specs.Prelude.{◌≡◌, ℕ, ◌*◌, ◌≤◌, max, true, List, [], ◌∷◌, map, length, sum_by, ◌==◌, if◌then◌else◌}
 use Rattle.std.specs.List.{AllByRecursion}
 use Rattle.costs.specs.Classes.{class_written}
 use Rattle.costs.specs.Totals.{held, total_written}
@@ -38,7 +38,7 @@ Highest ws w = w.minutes ≡ highest (map (λ x. x.minutes) ws)
 
 -- the minutes of the costs of one class
 abbrev pub minutes_in : ℕ → List Class → ℕ
-minutes_in k cs = sum_by (λ x. cond (x.class == k) x.minutes 0) cs
+minutes_in k cs = sum_by (λ x. if x.class == k then x.minutes else 0) cs
 
 -- the highest class, with the minutes of its costs, held as a sum is
 pub record HighestClass (cs : List Class) (c : Class) : Type 0 where

@@ -1,5 +1,5 @@
 -- What a row of costs comes to in whole numbers: the sum, the highest, or the highest class with its minutes. Assumes nothing.
-use Rattle.std.specs.Prelude.{◌≡◌, ℕ, ◌+◌, ◌<◌, ◌≤◌, max, cond, List, [], ◌∷◌, map, length, sum_by, refl, ◌==◌}
+use Rattle.std.specs.Prelude.{◌≡◌, ℕ, ◌+◌, ◌<◌, ◌≤◌, max, List, [], ◌∷◌, map, length, sum_by, refl, ◌==◌, if◌then◌else◌}
 use Rattle.std.specs.List.{AllByRecursion}
 use Rattle.std.proofs.Common.{sym, ap, ◌∙◌, ⊎_elim, mul-le-mul_right, arith}
 use Rattle.std.proofs.ByRecursion.{All-weaker, sum_by_le}
@@ -45,7 +45,7 @@ pub record ClassFacts (o : Operations Class) : Type 0 where
 
 -- the minutes that a cost adds to those of class k
 abbrev share : ℕ → Class → ℕ
-share k c = cond (c.class == k) c.minutes 0
+share k c = if c.class == k then c.minutes else 0
 
 -- no cost is of a class above the highest
 none_above : (k : ℕ) (cs : List Class) → highest (map (λ x. x.class) cs) < k → minutes_in k cs ≡ 0

@@ -1,5 +1,5 @@
 -- Worst: the greater number of minutes counts. Assumes nothing.
-use Rattle.std.specs.Prelude.{◌-◌, ◌^◌, min, max, cond, nat_le, nat_lt}
+use Rattle.std.specs.Prelude.{◌-◌, ◌^◌, min, max, nat_le, nat_lt, if◌then◌else◌}
 use Rattle.std.proofs.Common.{arith}
 use Rattle.costs.specs.Bytes.{big_endian}
 use Rattle.costs.specs.Kinds.{Operations}
@@ -14,7 +14,7 @@ worst_operations = record {
   empty = no_minutes;
   compose = λ a b. record { minutes = max a.minutes b.minutes; fits = omega arith };
   at_most = λ a b. nat_le a.minutes b.minutes;
-  rest = λ a b. cond (nat_lt a.minutes b.minutes) b no_minutes;
+  rest = λ a b. if nat_lt a.minutes b.minutes then b else no_minutes;
 }
 
 -- a shortage of 0 to 120 minutes is far below the largest number of 32 bits

@@ -1,5 +1,5 @@
 // The rest gauge: what it costs a driver to have one duty after another.
-ghost use Rattle.std.specs.Prelude.{◌≡◌, Decides};
+ghost use Rattle.std.specs.Prelude.{◌↔◌, ◌≡◌, IsTrue};
 ghost use Rattle.costs.specs.Gauge.{Sound, WellFormed, rest_minutes, gauged};
 
 use crate::kind::WrittenKind;
@@ -14,14 +14,14 @@ const SHORTEST_REST: u32 = 600;
 const FULL_REST: u32 = 720;
 
 fn sound(duty: Duty) -> bool
-    ensures { Decides result (Sound duty) }
+    ensures { IsTrue result ↔ (Sound duty) }
 {
     duty.start <= LAST_MINUTE && duty.finish <= LAST_MINUTE && duty.start <= duty.finish
 }
 
 // Whether these are `n` duties, each of them within its day.
 pub fn well_formed(duties: &[Duty], n: usize) -> bool
-    ensures { Decides result (WellFormed n duties.now) }
+    ensures { IsTrue result ↔ (WellFormed n duties.now) }
 {
     duties.len() == n && duties.iter().all(|duty| sound(*duty))
 }

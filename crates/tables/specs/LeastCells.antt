@@ -1,5 +1,5 @@
 -- The least cell in a set of rows and a set of columns. Assumes nothing.
-use Rattle.std.specs.Prelude.{◌≡◌, ℕ, ◌<◌, true, cond, ◌&&◌, Some, None, Option, ◌≢◌}
+use Rattle.std.specs.Prelude.{◌≡◌, ℕ, ◌<◌, true, ◌&&◌, Some, None, Option, ◌≢◌, if◌then◌else◌}
 use Rattle.costs.specs.Kinds.{Operations}
 use Rattle.tables.specs.Steps.{in_set, AtMostInside}
 use Rattle.tables.specs.declared.values.Least.{Least}
@@ -24,8 +24,8 @@ pub record LeastInside {C : Type 0} (o : Operations C) (n : ℕ) (t : ℕ → �
 -- the lesser of the least cell so far and one cell more; of equal ones the earlier
 abbrev pub lesser : {C : Type 0} → Operations C → Option (Least C) → Least C → Option (Least C)
 lesser o None cell = Some cell
-lesser o (Some least) cell = cond (o.at_most least.amount cell.amount) (Some least) (Some cell)
+lesser o (Some least) cell = if o.at_most least.amount cell.amount then Some least else Some cell
 
 -- the same, where a cell counts only if it lies in both sets
 abbrev pub with_cell : {C : Type 0} → Operations C → ℕ → ℕ → Option (Least C) → Least C → Option (Least C)
-with_cell o rows columns least cell = cond (in_set rows cell.row && in_set columns cell.column) (lesser o least cell) least
+with_cell o rows columns least cell = if in_set rows cell.row && in_set columns cell.column then lesser o least cell else least

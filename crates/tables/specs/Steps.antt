@@ -1,5 +1,5 @@
 -- Steps (the admissible transformations of Burkard, Hahn and Zimmermann 1977): which may be made, and what they make of cells. Assumes nothing.
-use Rattle.std.specs.Prelude.{◌≡◌, ℕ, zero, suc, ◌+◌, ◌-◌, ◌*◌, ◌/◌, ◌%◌, ◌^◌, ◌<◌, ◌≤◌, Bool, true, false, cond, List, [], ◌∷◌, map, length, take, ◌==◌, count_ones, nat_lt, slice_index}
+use Rattle.std.specs.Prelude.{◌≡◌, ℕ, zero, suc, ◌+◌, ◌-◌, ◌*◌, ◌/◌, ◌%◌, ◌^◌, ◌<◌, ◌≤◌, Bool, true, false, List, [], ◌∷◌, map, length, take, ◌==◌, count_ones, nat_lt, slice_index, if◌then◌else◌}
 use Rattle.std.specs.List.{AllByRecursion}
 use Rattle.costs.specs.Kinds.{Operations, composed}
 use Rattle.costs.specs.declared.values.Widened.{Widened}
@@ -24,7 +24,7 @@ changed o amount false false b = o.compose amount b
 
 -- the same by a cell's place in a table of n columns; cells in surplus stay
 abbrev pub changed_at : {C : Type 0} → Operations C → ℕ → Step C → ℕ → C → C
-changed_at o n s place b = cond (nat_lt place (n * n)) (changed o s.amount (in_set s.sets.rows (place / n)) (in_set s.sets.columns (place % n)) b) b
+changed_at o n s place b = if nat_lt place (n * n) then changed o s.amount (in_set s.sets.rows (place / n)) (in_set s.sets.columns (place % n)) b else b
 
 abbrev pub stepped_from : {C : Type 0} → Operations C → ℕ → Step C → ℕ → List C → List C
 stepped_from o n s place [] = []

@@ -1,6 +1,6 @@
 // What is read from and done to a table's cells, which lie row by row in a slice of costs.
 // Cells and size stay apart: these functions go over any slice of costs, and `Table` holds the two together.
-ghost use Rattle.std.specs.Prelude.{◌≡◌, Decides, MatchOption};
+ghost use Rattle.std.specs.Prelude.{◌↔◌, ◌≡◌, IsTrue, MatchOption};
 ghost use Rattle.tables.specs.LeastCells.{NoneInside, LeastInside, with_cell};
 ghost use Rattle.tables.specs.Steps.{in_set, changed, stepped, AtMostInside, AllAbsorbed, FirstNotAbsorbed};
 ghost use Rattle.tables.specs.Tables.{grid, roster_cost};
@@ -87,7 +87,7 @@ pub fn least_cell<C: CostKind>(cells: &[C], size: Size, sets: Sets) -> Option<Le
 
 // Whether an amount is at most every cell in a set of rows and a set of columns.
 pub fn at_most_inside<C: CostKind>(amount: C, cells: &[C], size: Size, sets: Sets) -> bool
-    ensures { Decides result (AtMostInside C.operations size.n (grid C.operations size.n cells.now) sets.rows sets.columns amount) }
+    ensures { IsTrue result ↔ (AtMostInside C.operations size.n (grid C.operations size.n cells.now) sets.rows sets.columns amount) }
 {
     least_cell(cells, size, sets).is_none_or(|least| amount.at_most(least.amount))
 }

@@ -1,10 +1,10 @@
 // What a roster is.
-ghost use Rattle.std.specs.Prelude.{Decides};
+ghost use Rattle.std.specs.Prelude.{◌↔◌, IsTrue};
 ghost use Rattle.tables.specs.Rosters.{Roster};
 
 // Whether `columns` gives each of `n` rows a column of its own.
 pub fn is_roster(columns: &[u8], n: usize) -> bool
-    ensures { Decides result (Roster n columns.now) }
+    ensures { IsTrue result ↔ (Roster n columns.now) }
 {
     columns.len() == n
         && columns.iter().enumerate().all(|(row, column)| {

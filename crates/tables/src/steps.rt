@@ -1,5 +1,5 @@
 // Steps: their sets, their excess, and the value of a list of them.
-ghost use Rattle.std.specs.Prelude.{◌≡◌, ◌+◌, ◌≤◌, ◌&&◌, Decides, count_ones};
+ghost use Rattle.std.specs.Prelude.{◌↔◌, ◌≡◌, ◌+◌, ◌≤◌, ◌&&◌, IsTrue, count_ones};
 ghost use Rattle.tables.specs.Steps.{in_set, excess, times, taken, value, Absorbed, wide};
 
 use crate::values::{Sets, Size, Step};
@@ -86,7 +86,7 @@ pub fn value<K: CostKind>(steps: &[Step<K>], size: Size) -> K
 
 // Whether the cell is absorbed by the value `z`. No cell lowers a value, so one comparison decides it.
 pub fn absorbs<C: CostKind>(z: C, cell: C) -> bool
-    ensures { Decides result (Absorbed C.operations z cell) }
+    ensures { IsTrue result ↔ (Absorbed C.operations z cell) }
 {
     z.compose(cell).at_most(z)
 }

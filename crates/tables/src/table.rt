@@ -1,5 +1,5 @@
 // A table over lent cells of any kind, widened by forbidden.
-ghost use Rattle.std.specs.Prelude.{◌≡◌, map, IfNone, Decides, MatchOption};
+ghost use Rattle.std.specs.Prelude.{◌↔◌, ◌≡◌, map, IfNone, IsTrue, MatchOption};
 ghost use Rattle.costs.specs.Wide.{widened};
 ghost use Rattle.costs.specs.declared.values.Widened.TheVariants.{Allowed};
 ghost use Rattle.tables.specs.Lent.{side, cells_of, at};
@@ -36,7 +36,7 @@ impl<'a, K: CostKind> Table<'a, K> {
 
     // Whether the step's amount is at most every cell in both its sets.
     pub fn amount_fits(&self, step: Step<K>) -> bool
-        ensures { Decides result (AtMostInside (widened K.operations) (side self.now) (at K.operations self.now) step.sets.rows step.sets.columns (Allowed step.amount)) }
+        ensures { IsTrue result ↔ (AtMostInside (widened K.operations) (side self.now) (at K.operations self.now) step.sets.rows step.sets.columns (Allowed step.amount)) }
     {
         let amount = Widened::Allowed(step.amount);
         at_most_inside(amount, self.cells, self.size, step.sets)
