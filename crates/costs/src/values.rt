@@ -28,7 +28,7 @@ pub struct Class {
 }
 
 // Any kind, widened by the cost forbidden, which is greater than all others.
-// No `Option`: `None` comes before every value where forbidden comes after, and what is printed of a cell could not be said of it.
+// No `Option`: that has an order in which `None` comes first, where forbidden comes last, and nothing can be said of how it prints.
 #[derive(Clone, Copy, Debug, PartialEq, Eq, Hash)]
 pub enum Widened<K> {
     Allowed(K),
