@@ -1,5 +1,6 @@
 -- What is written to and read from the front of a slice. Assumes nothing.
 use Rattle.std.proofs.Common.{◌≡◌, ℕ, zero, suc, ◌+◌, ◌<◌, List, [], ◌∷◌, ◌++◌, length, get_or, min, take, drop, replicate, refl, subst, Fits, w8, sym, ap, ◌∙◌, arith, length-drop, drop-cons}
+use Rattle.std.proofs.lemmas.List.{nil_from_length}
 use Rattle.costs.specs.Bytes.{first_bytes, over}
 
 -- what has room, and behind it what was there
@@ -44,8 +45,5 @@ one_by_one xs zero i = []
 one_by_one xs (suc k) i = get_or xs i 0 ∷ one_by_one xs k (suc i)
 
 pub as_one_by_one : (xs : List ℕ) (k i : ℕ) → length xs ≡ i + k → drop i xs ≡ one_by_one xs k i
-as_one_by_one xs zero i e = nothing (drop i xs) (omega (arith, length-drop i xs)) where
-  nothing : (l : List ℕ) → length l ≡ 0 → l ≡ []
-  nothing [] h = refl
-  nothing (x ∷ l) h = absurd (omega arith)
+as_one_by_one xs zero i e = nil_from_length (drop i xs) (omega (arith, length-drop i xs))
 as_one_by_one xs (suc k) i e = drop-cons xs i 0 (omega arith) ∙ ap (λ l. get_or xs i 0 ∷ l) (as_one_by_one xs k (suc i) (omega arith))

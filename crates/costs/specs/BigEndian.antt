@@ -1,14 +1,13 @@
 -- A number below 256^k and its k bytes, the highest first, go to and fro. Assumes nothing.
 use Rattle.std.specs.Prelude.{◌≡◌, ℕ, zero, suc, ◌+◌, ◌*◌, ◌/◌, ◌%◌, ◌^◌, ◌<◌, List, [], ◌∷◌, length, refl}
-use Rattle.std.proofs.Common.{sym, ap, ◌∙◌, pow-suc, div-add-mod', div-lt_iff_lt-mul, mod-lt, arith}
-use Rattle.std.proofs.Math.Nat.{pow-succ'}
+use Rattle.std.proofs.Common.{sym, ap, ◌∙◌, div-add-mod', div-lt_iff_lt-mul, mod-lt, arith}
+use Rattle.std.proofs.Math.Nat.{pow-succ', one-le-pow}
 use Rattle.std.proofs.Math.Arith.{digits_lt, digits_div, digits_mod}
 use Rattle.std.specs.List.{AllByRecursion}
 use Rattle.costs.specs.Bytes.{big_endian, Body}
 
 pub power_positive : (k : ℕ) → 0 < 256 ^ k
-power_positive zero = omega arith
-power_positive (suc k) = rw pow-suc (omega (arith, power_positive k))
+power_positive k = one-le-pow k 256 (omega arith)
 
 pub big_endian_length : (k n : ℕ) → length (big_endian k n) ≡ k
 unfolding big_endian

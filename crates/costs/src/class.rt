@@ -97,6 +97,7 @@ impl WrittenKind for Class {
     ghost size_is = { refl };
 
     fn write_body(self, out: &mut [u8]) {
+        // By name, one by one: a pattern with a rest gets no proof.
         let [a, b, c, d, e, f, g, h] = self.minutes.to_be_bytes();
         put(&[self.class, a, b, c, d, e, f, g, h], out);
     }

@@ -12,11 +12,6 @@ module _ {T E D : Type 0} (make : E → D) where
   abbrev pub Mapped : Result T E → Result T D → Type 0
   Mapped r s = MatchResult r (λ x. s ≡ Ok x) (λ e. IsErrAnd s (λ d. d ≡ make e))
 
-  pub map_err_is : (r : Result T E) (s : Result T D) → Mapped r s → s ≡ result_map_both (λ x. x) make r
-  map_err_is (Ok x) s h = h
-  map_err_is (Err e) (Ok y) h = absurd h
-  map_err_is (Err e) (Err d) h = cc
-
   -- behind the `?`, the value is as it was
   pub same_ok : (r : Result T E) (s : Result T D) (v : T) → Mapped r s → s ≡ Ok v → r ≡ Ok v
   same_ok (Ok x) s v h is = cc

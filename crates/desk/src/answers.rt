@@ -31,7 +31,7 @@ pub fn answer(heap: Global, line: &[u8]) -> Result<Option<String>, Fault>
     }
     let text = from_utf8(line).map_err(|_| Fault::NotText)?;
     let words = cut_words(heap, text)?;
-    answer_words(heap, words.as_slice())
+    answer_words(heap, &words)
 }
 
 fn answer_words(heap: Global, words: &[&str]) -> Result<Option<String>, Fault>
@@ -81,9 +81,9 @@ fn answer_price(heap: Global, words: PriceWords) -> Result<String, PriceFault>
         PriceFault::NoMemoryLeft,
     )?;
     let link = Link {
-        earlier: earlier.as_slice(),
-        later: later.as_slice(),
-        roster: columns.as_slice(),
+        earlier: &earlier,
+        later: &later,
+        roster: &columns,
     };
     let price = link.price(heap, kind).map_err(PriceFault::NotPriced)?;
     Ok(format!(in heap; "ok {price}")?)

@@ -62,7 +62,7 @@ pub enum Fault {
     OutOfMemory,
 }
 
-// These are written out, and not derived, since contracts name the error that a `?` makes.
+// Written out, and not derived, since contracts name the error that a `?` makes.
 impl From<AllocError> for PriceFault {
     ghost from_gives = { λ _ r. r ≡ NoMemoryLeft };
 

@@ -13,7 +13,7 @@ use costs::values::{Class, Duty, Total, Widened, Worst};
 use std::alloc::{AllocError, Global};
 use std::fmt;
 use tables::rosters::is_roster;
-use tables::values::MOST_ROWS;
+use tables::values::Size;
 use thiserror::Error;
 use words::kinds::Kind;
 
@@ -97,10 +97,9 @@ impl<'a> Link<'a> {
     pub fn price(self, heap: Global, kind: Kind) -> Result<Price, Unpriced>
         ensures { Answered kind self.entry.earlier.now self.entry.later.now self.entry.roster.now result }
     {
-        let n = self.earlier.len();
-        if !(1..=MOST_ROWS).contains(&n) {
-            return Err(Unpriced::DutyCount);
-        }
+        let n = Size::of(self.earlier.len())
+            .ok_or(Unpriced::DutyCount)?
+            .rows();
         if self.later.len() != n {
             return Err(Unpriced::LaterCount);
         }
@@ -114,6 +113,7 @@ impl<'a> Link<'a> {
     }
 }
 
+// Written out, since contracts name the error that a `?` makes.
 impl From<AllocError> for Unpriced {
     ghost from_gives = { λ _ r. r ≡ NoMemory };
 

@@ -80,7 +80,7 @@ fn weigh_words<K: PlainKind + Item>(
         WeighFault::NoColumns,
         WeighFault::NoMemoryLeft,
     )?;
-    weigh_table(size, cells.as_mut_slice(), columns.as_slice()).map_err(WeighFault::NotWeighed)
+    weigh_table(size, &mut cells, &columns).map_err(WeighFault::NotWeighed)
 }
 
 // The cost in the named kind.

@@ -1,23 +1,13 @@
 -- The cells that a roster chooses, row by row. Assumes nothing.
-use Rattle.std.proofs.Common.{◌≡◌, ℕ, zero, suc, ◌+◌, ◌<◌, Some, None, Option, MatchOption, take_all, zero-add, List, [], ◌∷◌, ◌++◌, length, get_or, take, sym, refl, ap, ◌∙◌, subst, add-one, map, arith}
+use Rattle.std.proofs.Common.{◌≡◌, ℕ, zero, suc, ◌+◌, ◌<◌, Some, None, Option, MatchOption, take_all, zero-add, List, [], ◌∷◌, length, get_or, take, sym, refl, ap, ◌∙◌, subst, add-one, map, arith}
 use Rattle.std.specs.List.{AllByRecursion, AllWithin, HoldsAt, enumerate_from}
-use Rattle.std.proofs.lemmas.List.{take_more, length-take-le}
 use Rattle.std.proofs.lemmas.List.FromFn.{length-enumerate_from}
 use Rattle.costs.specs.Kinds.{Operations}
 use Rattle.tables.specs.Steps.{Absorbed, AllAbsorbed, FirstNotAbsorbed}
-use Rattle.tables.specs.Tables.{chosen_from, chosen}
+use Rattle.tables.specs.Tables.{chosen_from}
 use Rattle.tables.proofs.Seats.{seat_at}
 
 module _ {C : Type 0} (t : ℕ → ℕ → C) where
-  chosen_push : (r : ℕ) (cs : List ℕ) (c m : ℕ) → r + length cs ≡ m → chosen_from t r (cs ++ (c ∷ [])) ≡ chosen_from t r cs ++ (t m c ∷ [])
-  chosen_push r [] c m e = let here : r ≡ m = omega arith in ap (λ x. t x c ∷ []) here
-  chosen_push r (x ∷ cs) c m e = ap (λ l. t r x ∷ l) (chosen_push (suc r) cs c m (omega arith))
-
-  -- one row more
-  pub chosen_more : (columns : List ℕ) (i : ℕ) → i < length columns → chosen t (take (i + 1) columns) ≡ chosen t (take i columns) ++ (t i (get_or columns i 0) ∷ [])
-  chosen_more columns i within =
-      ap (chosen t) (take_more columns i 0 within) ∙ chosen_push 0 (take i columns) (get_or columns i 0) i (omega (arith, length-take-le i columns (omega arith)))
-
   -- the cells of the rows and columns that a roster gives one by one
   pub cells_chosen : (r : ℕ) (columns : List ℕ) → map (λ p. t p.0 p.1) (enumerate_from r columns) ≡ chosen_from t r columns
   cells_chosen r [] = refl

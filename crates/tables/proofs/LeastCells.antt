@@ -12,9 +12,6 @@ module _ (n rows columns : ℕ) where
     pub columns_before : (r c : ℕ) → r < n → c < column → in_set rows r ≡ true → in_set columns c ≡ true → P r c
     pub rows_before : (r : ℕ) → r < row → in_set rows r ≡ true → in_set columns column ≡ true → P r column
 
-  seen_none : (P : ℕ → ℕ → Type 0) → Seen P 0 0
-  seen_none P = record { columns_before = λ r c _ none. absurd (omega arith); rows_before = λ r none. absurd (omega arith) }
-
   seen_row : (P : ℕ → ℕ → Type 0) (column row : ℕ) → Seen P column row → (in_set rows row ≡ true → in_set columns column ≡ true → P row column) → Seen P column (row + 1)
   seen_row P column row seen here = record {
     columns_before = seen.columns_before;
@@ -36,9 +33,6 @@ module _ {C : Type 0} (o : Operations C) (n : ℕ) (t : ℕ → ℕ → C) (rows
   abbrev pub Sofar : ℕ → ℕ → Option (Least C) → Type 0
   Sofar column row None = Seen n rows columns (λ _ _. ⊥) column row
   Sofar column row (Some least) = Found column row least
-
-  pub sofar_none : Sofar 0 0 None
-  sofar_none = seen_none n rows columns (λ _ _. ⊥)
 
   -- one column more
   pub sofar_column : (column row : ℕ) → n ≤ row → (least : Option (Least C)) → Sofar column row least → Sofar (column + 1) 0 least

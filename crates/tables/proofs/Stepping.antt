@@ -155,10 +155,6 @@ module _ {C : Type 0} (o : Operations C) (n : ℕ) where
   pub forbidden_kept : (s : Step C) (cells : List (Widened C)) → map is_forbidden (stepped (widened o) n (wide s) cells) ≡ map is_forbidden cells
   forbidden_kept s cells = kept_from s 0 cells
 
-  pub all_forbidden_kept : (steps : List (Step C)) (cells : List (Widened C)) → map is_forbidden (stepped_all (widened o) n (map wide steps) cells) ≡ map is_forbidden cells
-  all_forbidden_kept [] cells = refl
-  all_forbidden_kept (s ∷ steps) cells = all_forbidden_kept steps (stepped (widened o) n (wide s) cells) ∙ forbidden_kept s cells
-
   -- a loop's step: one step more
   pub stepped_more : (steps : List (Step C)) (i : ℕ) (s : Step C) (cells : List (Widened C)) → i < length steps → s ≡ get_or steps i s → stepped (widened o) n (wide s) (stepped_all (widened o) n (map wide (take i steps)) cells) ≡ stepped_all (widened o) n (map wide (take (i + 1) steps)) cells
   stepped_more steps i s cells within read =

@@ -66,6 +66,7 @@ fn with_cell<C: CostKind>(sets: Sets, least: Option<Least<C>>, cell: Least<C>) -
 
 // The least cell in a set of rows and a set of columns, with its row and column; none where no cell lies in both.
 // Columns are gone through one by one, so that of equal cells the lowest column comes first, and in it the lowest row.
+#[tactic(auto, using(crate::proofs::LeastCells::sofar_column, crate::proofs::LeastCells::sofar_all))]
 pub fn least_cell<C: CostKind>(cells: &[C], size: Size, sets: Sets) -> Option<Least<C>>
     ensures { MatchOption result (NoneInside size.n sets.rows sets.columns) (λ least. LeastInside C.operations size.n (grid C.operations size.n cells.now) sets.rows sets.columns least) }
 {

@@ -6,7 +6,7 @@ use crate::values::{Sets, Size, Step};
 use costs::kind::CostKind;
 use costs::values::Widened;
 
-const MASK_BITS: usize = 32;
+const MASK_BITS: usize = u32::BITS as usize;
 
 // Whether a mask's set has row or column `i`.
 pub fn in_set(mask: u32, i: usize) -> bool

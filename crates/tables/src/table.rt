@@ -60,8 +60,7 @@ impl<'a, K: CostKind> Table<'a, K> {
         ensures rosters { StepLowers K.operations (side self.old) (cells_of self.old) step (cells_of self.new) }
         ensures forbidden { map is_forbidden (cells_of self.new) ≡ map is_forbidden (cells_of self.old) }
     {
-        let size = self.size;
-        apply_step(self.cells, size, step.widened());
+        apply_step(self.cells, self.size, step.widened());
     }
 
     // Makes one step after the other.

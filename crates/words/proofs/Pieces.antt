@@ -1,12 +1,10 @@
 -- The pieces of a word, and what they list. Assumes nothing.
-use Rattle.std.proofs.Common.{◌≡◌, ℕ, ◌+◌, ◌<◌, List, [], ◌∷◌, ◌++◌, map, length, get_or, take, Ok, Err, IfOk, codes, Result, Vec, vec_items, vec_len, subst, inr, arith, Bor}
+use Rattle.std.proofs.Common.{◌≡◌, ℕ, ◌+◌, ◌<◌, List, [], ◌∷◌, ◌++◌, map, length, get_or, take, Ok, Err, IfOk, Result, Vec, vec_items, vec_len, subst, arith, Bor}
 use Rattle.std.specs.Str.Iter.{LacksByte}
 use Rattle.std.specs.List.{join_with_byte, AllWithin}
 use Rattle.std.proofs.ByRecursion.{all_from_every, All-map}
 use Rattle.std.proofs.lemmas.List.{map_more, length-map}
-use Rattle.words.specs.declared.lists.Unlisted.{Unlisted}
-use Rattle.words.specs.declared.lists.Unlisted.TheVariants.{NoItem, NoMemory}
-use Rattle.words.specs.Words.{CutAtCommas, Texts, PiecesRead, Listed}
+use Rattle.words.specs.Words.{CutAtCommas, Texts}
 
 -- one piece more, with its item
 texts_push : {X : Type 0} (Text : List ℕ → X → Type 0) (pieces : List (List ℕ)) (xs : List X) (p : List ℕ) (x : X) → Texts Text pieces xs → Text p x → Texts Text (pieces ++ (p ∷ [])) (xs ++ (x ∷ []))
@@ -37,9 +35,3 @@ cut_at_commas word (Ok v) some joined apart =
     let free = all_from_every _ items (subst (AllWithin (λ x. LacksByte 44 x.now) items 0) v.ok.0 apart) in
     record { some = omega (arith, some, v.ok.0, length-behind items); joined = joined; no_comma = All-map (LacksByte 44) (λ x. x.now) items free }
 cut_at_commas word (Err e) some joined apart = tt
-
--- a word cut at its commas, and what its pieces give
-pub listed : {X A : Type 0} (Text : List ℕ → X → Type 0) (word : List ℕ) (pieces : List (List ℕ)) (r : Result (Vec X A) Unlisted) → (word ≡ codes "." → ⊥) → CutAtCommas word pieces → PiecesRead Text pieces r → Listed Text word r
-listed Text word pieces (Ok v) items cut read = inr (pieces, cut, read)
-listed Text word pieces (Err NoItem) items cut read = (items, (pieces, cut, read))
-listed Text word pieces (Err NoMemory) items cut read = items

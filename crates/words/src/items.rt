@@ -5,6 +5,7 @@ ghost use Rattle.words.specs.Words.{NumberText, DutyText};
 use crate::numbers::{number, two_numbers};
 use costs::values::Duty;
 
+// A trait of its own, and not `FromStr`: that of `u8` takes a sign, and the other types belong to another crate.
 pub trait Item: Copy {
     ghost text: { List ℕ → Self → Type 0 };
 

@@ -17,6 +17,7 @@ pub enum Kind {
 #[derive(Clone, Copy, Debug, PartialEq, Eq, Hash)]
 pub struct UnknownKind;
 
+// Written out, and not derived, since a contract says what is printed.
 impl fmt::Display for UnknownKind {
     ghost output = { λ _. Some (codes "expected the kind total, worst or class") };
 

@@ -24,6 +24,7 @@ impl Unlisted {
     }
 }
 
+// Written out, since contracts name the error that a `?` makes: the first where pieces are collected, the second where an item is pushed.
 impl From<AllocError> for Unlisted {
     ghost from_gives = { λ _ why. why ≡ NoMemory };
 
@@ -46,6 +47,7 @@ fn pieces<'a>(heap: Global, word: &'a str) -> Result<Vec<&'a str>, AllocError>
     word.split(',').collect(heap)
 }
 
+// All pieces are cut before any is read, since what is no list is said of them all.
 fn read_pieces<T: Item>(heap: Global, parts: &[&str]) -> Result<Vec<T>, Unlisted>
     ensures { PiecesRead T.text (map (λ x. x.now) parts.now) result }
 {
