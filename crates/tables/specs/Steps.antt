@@ -5,6 +5,7 @@ use Rattle.costs.specs.Kinds.{Operations, composed}
 use Rattle.costs.specs.declared.values.Widened.{Widened}
 use Rattle.costs.specs.declared.values.Widened.TheVariants.{Allowed, Forbidden}
 use Rattle.tables.specs.Tables.{grid, chosen}
+use Rattle.tables.specs.declared.values.Sets.{Sets}
 use Rattle.tables.specs.declared.values.Step.{Step}
 
 -- whether a mask's set has row or column r: the bit of worth 2^r is 1
@@ -40,15 +41,15 @@ stepped_all o n [] cells = cells
 stepped_all o n (s ∷ steps) cells = stepped_all o n steps (stepped o n s cells)
 
 -- the amount is at most every cell in both sets
-abbrev pub AtMostInside : {C : Type 0} → Operations C → ℕ → (ℕ → ℕ → C) → ℕ → ℕ → C → Type 0
-AtMostInside o n t rows columns amount = (r c : ℕ) → r < n → c < n → in_set rows r ≡ true → in_set columns c ≡ true → o.at_most amount (t r c) ≡ true
+abbrev pub AtMostInside : {C : Type 0} → Operations C → ℕ → (ℕ → ℕ → C) → Sets → C → Type 0
+AtMostInside o n t sets amount = (r c : ℕ) → r < n → c < n → in_set sets.rows r ≡ true → in_set sets.columns c ≡ true → o.at_most amount (t r c) ≡ true
 
 -- a step that may be made: its sets lie in the table, its excess is at least 1, and its amount is at most every cell in both sets
 pub record Admissible {C : Type 0} (o : Operations C) (n : ℕ) (t : ℕ → ℕ → C) (s : Step C) : Type 0 where
   pub rows_there : s.sets.rows < 2 ^ n
   pub columns_there : s.sets.columns < 2 ^ n
   pub some_excess : 1 ≤ excess n s
-  pub amount_fits : AtMostInside o n t s.sets.rows s.sets.columns s.amount
+  pub amount_fits : AtMostInside o n t s.sets s.amount
 
 -- steps that may be made one after the other
 abbrev pub AllAdmissible : {C : Type 0} → Operations C → ℕ → List C → List (Step C) → Type 0

@@ -53,7 +53,7 @@ pub fn apply_step<C: CostKind>(cells: &mut [C], size: Size, step: Step<C>)
 
 // The least cell so far, with one cell more, where that lies in both sets. Of equal cells the earlier stays.
 fn with_cell<C: CostKind>(sets: Sets, least: Option<Least<C>>, cell: Least<C>) -> Option<Least<C>>
-    ensures { result ≡ with_cell C.operations sets.rows sets.columns least cell }
+    ensures { result ≡ with_cell C.operations sets least cell }
 {
     if !sets.hold(cell.row, cell.column) {
         return least;
@@ -68,7 +68,7 @@ fn with_cell<C: CostKind>(sets: Sets, least: Option<Least<C>>, cell: Least<C>) -
 // Columns are gone through one by one, so that of equal cells the lowest column comes first, and in it the lowest row.
 #[tactic(auto, using(crate::proofs::LeastCells::sofar_column, crate::proofs::LeastCells::sofar_all))]
 pub fn least_cell<C: CostKind>(cells: &[C], size: Size, sets: Sets) -> Option<Least<C>>
-    ensures { MatchOption result (NoneInside size.n sets.rows sets.columns) (λ least. LeastInside C.operations size.n (grid C.operations size.n cells.now) sets.rows sets.columns least) }
+    ensures { MatchOption result (NoneInside size.n sets) (λ least. LeastInside C.operations size.n (grid C.operations size.n cells.now) sets least) }
 {
     let n = size.rows();
     let mut least = None;
@@ -88,7 +88,7 @@ pub fn least_cell<C: CostKind>(cells: &[C], size: Size, sets: Sets) -> Option<Le
 
 // Whether an amount is at most every cell in a set of rows and a set of columns.
 pub fn at_most_inside<C: CostKind>(amount: C, cells: &[C], size: Size, sets: Sets) -> bool
-    ensures { IsTrue result ↔ (AtMostInside C.operations size.n (grid C.operations size.n cells.now) sets.rows sets.columns amount) }
+    ensures { IsTrue result ↔ (AtMostInside C.operations size.n (grid C.operations size.n cells.now) sets amount) }
 {
     least_cell(cells, size, sets).is_none_or(|least| amount.at_most(least.amount))
 }

@@ -29,14 +29,14 @@ impl<'a, K: CostKind> Table<'a, K> {
 
     // The least cell in a set of rows and a set of columns, with its row and column.
     pub fn least(&self, sets: Sets) -> Option<Least<Widened<K>>>
-        ensures { MatchOption result (NoneInside (side self.now) sets.rows sets.columns) (λ least. LeastInside (widened K.operations) (side self.now) (at K.operations self.now) sets.rows sets.columns least) }
+        ensures { MatchOption result (NoneInside (side self.now) sets) (λ least. LeastInside (widened K.operations) (side self.now) (at K.operations self.now) sets least) }
     {
         least_cell(self.cells, self.size, sets)
     }
 
     // Whether the step's amount is at most every cell in both its sets.
     pub fn amount_fits(&self, step: Step<K>) -> bool
-        ensures { IsTrue result ↔ (AtMostInside (widened K.operations) (side self.now) (at K.operations self.now) step.sets.rows step.sets.columns (Allowed step.amount)) }
+        ensures { IsTrue result ↔ (AtMostInside (widened K.operations) (side self.now) (at K.operations self.now) step.sets (Allowed step.amount)) }
     {
         let amount = Widened::Allowed(step.amount);
         at_most_inside(amount, self.cells, self.size, step.sets)

@@ -8,4 +8,4 @@ loop-row-preserved g c =
     let o = g.C.CostKind.operations in
     let n = c.args.size.n in
     rw (c.with_cell-least.ensures, c.cell_at-amount.ensures)
-    (sofar_row g.met.C.CostKind.lawful n (grid o n c.args.cells.now) c.args.sets.rows c.args.sets.columns c.loop-column.column c.loop-row.row (omega arith) (omega arith) c.loop-row.least c.loop-row.invariant)
+    (sofar_row g.met.C.CostKind.lawful n (grid o n c.args.cells.now) c.args.sets c.loop-column.column c.loop-row.row (omega arith) (omega arith) c.loop-row.least c.loop-row.invariant)
