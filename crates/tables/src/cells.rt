@@ -46,6 +46,7 @@ pub fn apply_step<C: CostKind>(cells: &mut [C], size: Size, step: Step<C>)
 {
     let n = size.rows();
     let end = (n * n).min(cells.len());
+    // By place: what is written through chunks of rows is not known after the loop.
     for (place, cell) in cells[..end].iter_mut().enumerate() {
         *cell = changed_cell(step, place / n, place % n, *cell);
     }
