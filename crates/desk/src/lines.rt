@@ -1,10 +1,11 @@
 // Lines of bounded length: the memory for one line is got once, and no line can use up more.
-ghost use Rattle.std.specs.Prelude.{◌≡◌, ◌≤◌, ℕ, List, [], ◌∷◌, ◌++◌, length, IfOk, OnOk, OnErr, vec_len, vec_capacity};
-ghost use Rattle.desk.specs.Lines.{Holds};
+ghost use Rattle.std.specs.Prelude.{◌≡◌, ◌≤◌, ℕ, List, [], ◌∷◌, ◌++◌, length, IfOk, IfSome, IfNone, option_to_list, OnOk, OnErr, vec_len, vec_capacity};
+ghost use Rattle.std.specs.Io.KnownBytes.{Consumes, IsAtEnd};
+ghost use Rattle.desk.specs.Lines.{Holds, LineTaken};
 
 use std::alloc::{AllocError, Global};
 use std::io;
-use std::io::Read;
+use std::io::{ErrorKind, Read};
 use std::marker::Model;
 use thiserror::Error;
 
@@ -61,16 +62,39 @@ impl Line {
 
     // Reads up to the next end of a line, if any byte is left. The input may end in the middle of a line, which then counts as a whole one.
     pub fn read<R: Read>(&mut self, input: &mut R) -> io::Result<Option<Result<(), TooLong>>>
-        ensures { IfOk result (λ read. Holds read self.new) }
+        ensures line { IfOk result (λ read. Holds read self.new) }
+        ensures taken { IfOk result (λ read. IfSome (R.remaining input.old) (λ before.
+            LineTaken read before (R.remaining input.new) self.new)) }
     {
         self.bytes.clear();
         let mut kept = Ok(());
-        for byte in input.bytes() {
-            match byte? {
-                LINE_END => return Ok(Some(kept)),
-                byte => kept = kept.and(self.keep(byte)),
+        // A byte at a time: `bytes()` does not say what it leaves of the input that it borrows.
+        for _ in 0..u64::MAX {
+            match next_byte(input)? {
+                None => return Ok((!self.bytes.is_empty()).then_some(kept)),
+                Some(LINE_END) => return Ok(Some(kept)),
+                Some(byte) => kept = kept.and(self.keep(byte)),
             }
         }
-        Ok((!self.bytes.is_empty()).then_some(kept))
+        Err(io::Error::from(ErrorKind::TimedOut))
     }
+}
+
+// The next byte of the input, or none at its end. A read that a signal interrupts is made again.
+fn next_byte<R: Read>(input: &mut R) -> io::Result<Option<u8>>
+    ensures taken { IfOk result (λ next.
+        Consumes (R.remaining input.old) (R.remaining input.new) (option_to_list next)) }
+    ensures end { IfOk result (λ next. IfNone next (IsAtEnd (R.remaining input.new))) }
+{
+    let mut byte = [0u8];
+    // A counted loop, since nothing says that the signals end.
+    for _ in 0..u64::MAX {
+        match input.read(&mut byte) {
+            Ok(0) => return Ok(None),
+            Ok(_) => return Ok(Some(byte[0])),
+            Err(e) if e.kind() == ErrorKind::Interrupted => {}
+            Err(e) => return Err(e),
+        }
+    }
+    Err(io::Error::from(ErrorKind::TimedOut))
 }
