@@ -90,10 +90,8 @@ fn next_byte<R: Read>(input: &mut R) -> io::Result<Option<u8>>
     // A counted loop, since nothing says that the signals end.
     for _ in 0..u64::MAX {
         match input.read(&mut byte) {
-            Ok(0) => return Ok(None),
-            Ok(_) => return Ok(Some(byte[0])),
             Err(e) if e.kind() == ErrorKind::Interrupted => {}
-            Err(e) => return Err(e),
+            read => return Ok((read? > 0).then_some(byte[0])),
         }
     }
     Err(io::Error::from(ErrorKind::TimedOut))

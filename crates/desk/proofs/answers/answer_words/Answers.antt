@@ -1,15 +1,9 @@
-use Rattle.std.proofs.Common.{drop, codes, inl, inr, arith}
+use Rattle.std.proofs.Common.{drop, codes, inr, arith}
 use Rattle.words.proofs.Pieces.{behind}
-use Rattle.desk.specs.declared.faults.Fault.TheVariants.{InPrice, InWeigh}
+use Rattle.desk.specs.declared.faults.Fault.TheVariants.{InWeigh}
 use Rattle.desk.proofs.Mapped.{same_ok, made_err}
 use Rattle.desk.proofs.Texts.{first_and_others, word, five_of, not_five_of}
 use Rattle.desk.proofs.answers.answer_words.Goals as goal
-
-pub returns-in_ok-map_err-in-price : goal.returns-in_ok-map_err-in-price
-returns-in_ok-map_err-in-price c =
-    let parts = c.args.words.now in
-    let same = same_ok InPrice _ _ _ c.map_err.ensures.cases c.in_ok-map_err-in-price.was in
-    inl (_, five_of parts (codes "price") c.in-price.is-price (omega arith), (rw same at c.answer_price.ensures))
 
 pub returns-in-price-2 : goal.returns-in-price-2
 returns-in-price-2 c = not_five_of c.args.words.now (codes "price") c.in-price-2.is-price (grind arith) (λ five. grind arith)
