@@ -1,6 +1,7 @@
 -- Costs with equal numbers are equal. Assumes nothing.
 use Rattle.std.specs.Prelude.{◌≡◌, ℕ, ◌^◌, ◌<◌}
 use Rattle.std.proofs.Math.Path.{PathP}
+-- from the logic's own modules, since the library has no word for it
 use mathlib.Core.HLevel.{is_prop→PathP}
 use Rattle.std.proofs.Math.Bridge.{le_prop}
 use Rattle.costs.specs.declared.values.Total.{Total}

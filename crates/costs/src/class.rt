@@ -103,6 +103,7 @@ impl WrittenKind for Class {
     }
 
     fn read_body(bytes: &[u8]) -> Class {
+        // By name, as in `write_body`.
         let [class, a, b, c, d, e, f, g, h] = first_bytes::<9>(bytes);
         Class {
             class,

@@ -54,6 +54,7 @@ impl WrittenKind for Worst {
 
     ghost size_is = { refl };
 
+    // The same line as in total, at another width: each type writes itself.
     fn write_body(self, out: &mut [u8]) {
         put(&self.minutes.to_be_bytes(), out);
     }

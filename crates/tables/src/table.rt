@@ -71,6 +71,7 @@ impl<'a, K: CostKind> Table<'a, K> {
         ensures rosters { StepsLower K.operations (side self.old) (cells_of self.old) steps.now (cells_of self.new) }
         ensures forbidden { map is_forbidden (cells_of self.new) ≡ map is_forbidden (cells_of self.old) }
     {
+        // A plain loop: each step changes the table itself.
         for step in steps {
             self.apply(*step);
         }
