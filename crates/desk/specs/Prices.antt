@@ -33,6 +33,7 @@ pub record Linked (link : Link) : Type 0 where
   pub rows : length link.earlier.now ≡ length link.roster.now
   pub roster : Roster (length link.later.now) link.roster.now
 
+-- a price in a kind is what the cells that the roster chooses come to
 abbrev pub Priced : Kind → List Duty → List Duty → List ℕ → Price → Type 0
 Priced Total earlier later columns (InTotal r) = CostOf Sum (chosen (gauged_grid total_written earlier later) columns) r
 Priced Total earlier later columns (InWorst r) = ⊥
