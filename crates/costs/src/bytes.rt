@@ -1,5 +1,5 @@
 // Bytes at the front of a slice.
-ghost use Rattle.std.specs.Prelude.{◌≡◌, ◌^◌, ◌<◌, slice_index};
+ghost use Rattle.std.specs.Prelude.{◌≡◌, ◌^◌, ◌<◌, drop, slice_index};
 ghost use Rattle.costs.specs.Bytes.{big_endian, first_bytes, over};
 
 // Writes all bytes that have room.
@@ -26,10 +26,17 @@ pub fn first_bytes<const N: usize>(bytes: &[u8]) -> [u8; N]
     first
 }
 
+// The `N` bytes from `start` on; a missing byte counts as 0.
+pub(crate) fn bytes_from<const N: usize>(bytes: &[u8], start: usize) -> [u8; N]
+    ensures { result ≡ first_bytes N (drop start bytes.now) }
+{
+    first_bytes(&bytes[start.min(bytes.len())..])
+}
+
 // The number that the first four bytes write, the highest first; a missing byte counts as 0.
 pub fn number_32(bytes: &[u8]) -> u32
     ensures digits { big_endian 4 result ≡ first_bytes 4 bytes.now }
     ensures bound { result < 2 ^ 32 }
 {
-    u32::from_be_bytes(first_bytes(bytes))
+    u32::from_be_bytes(bytes_from(bytes, 0))
 }

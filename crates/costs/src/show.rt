@@ -6,11 +6,12 @@ use crate::values::{Class, Total, Widened, Worst};
 use std::fmt;
 
 // Total and worst print alike, a line each: what is printed belongs to the type, and one `impl` can name one type.
+// By `write!`, and not by the number's own `fmt`: no cost is padded or signed, whatever the caller's format asks for.
 impl fmt::Display for Total {
     ghost output = { λ c. Some (decimal c.minutes) };
 
     fn fmt<W: fmt::Write>(&self, f: &mut fmt::Formatter<W>) -> fmt::Result {
-        self.minutes.fmt(f)
+        write!(f, "{}", self.minutes)
     }
 }
 
@@ -18,7 +19,7 @@ impl fmt::Display for Worst {
     ghost output = { λ c. Some (decimal c.minutes) };
 
     fn fmt<W: fmt::Write>(&self, f: &mut fmt::Formatter<W>) -> fmt::Result {
-        self.minutes.fmt(f)
+        write!(f, "{}", self.minutes)
     }
 }
 

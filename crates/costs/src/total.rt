@@ -5,7 +5,7 @@ ghost use Rattle.costs.specs.Plain.{Sum};
 ghost use Rattle.costs.specs.PlainRows.{total_means};
 ghost use Rattle.costs.specs.MinutesLaws.{total_laws, total_faithful};
 
-use crate::bytes::{first_bytes, put};
+use crate::bytes::{bytes_from, put};
 use crate::kind::{CostKind, PlainKind, WrittenKind};
 use crate::values::{CELL_MINUTES, Total};
 
@@ -64,7 +64,7 @@ impl WrittenKind for Total {
 
     fn read_body(bytes: &[u8]) -> Total {
         Total {
-            minutes: u64::from_be_bytes(first_bytes(bytes)),
+            minutes: u64::from_be_bytes(bytes_from(bytes, 0)),
         }
     }
 

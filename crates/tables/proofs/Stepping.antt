@@ -2,8 +2,9 @@
 use Rattle.std.proofs.Common.{◌≡◌, ℕ, zero, suc, ◌+◌, ◌*◌, ◌/◌, ◌%◌, ◌<◌, ◌≤◌, Bool, true, false, cond, ltb, List, [], ◌∷◌, ◌++◌, map, length, get_or, take, IfNone, ◌⊎◌, inl, inr, min, drop, length-drop, length-take-le, Some, None, Option, sym, refl, ap, ◌∙◌, subst, ap₂, ⊎_elim, arith, MatchOption}
 use Rattle.std.specs.List.{AllByRecursion}
 use Rattle.std.proofs.lemmas.Nat.{mul-add-lt, div-mul-add, mod-mul-add}
-use Rattle.std.proofs.lemmas.List.{get_or_default, get_or_past, map_more, same_lists, take-append-drop}
+use Rattle.std.proofs.lemmas.List.{get_or_past, map_more, same_lists, take-append-drop}
 use Rattle.std.proofs.lemmas.Bool.{cases_lt, le-ltb, lt-ltb}
+use Rattle.std.proofs.lemmas.Bool.Decides.{nat_tests}
 use Rattle.costs.specs.Kinds.{Operations, Laws, composed}
 use Rattle.costs.specs.Wide.{widened}
 use Rattle.costs.specs.declared.values.Widened.{Widened}
@@ -23,7 +24,7 @@ module _ {C : Type 0} (o : Operations C) (n : ℕ) where
   length_from s place [] = refl
   length_from s place (b ∷ cells) = ap suc (length_from s (suc place) cells)
 
-  length-stepped : (s : Step C) (cells : List C) → length (stepped o n s cells) ≡ length cells
+  pub length-stepped : (s : Step C) (cells : List C) → length (stepped o n s cells) ≡ length cells
   length-stepped s cells = length_from s 0 cells
 
   get_or-from : (s : Step C) (place : ℕ) (cells : List C) (k m : ℕ) (d : C) → place + k ≡ m → k < length cells → get_or (stepped_from o n s place cells) k d ≡ changed_at o n s m (get_or cells k d)
@@ -39,17 +40,6 @@ module _ {C : Type 0} (o : Operations C) (n : ℕ) where
   changed_past : (s : Step C) (place : ℕ) (b : C) → n * n ≤ place → changed_at o n s place b ≡ b
   changed_past s place b past = ap (λ t. cond t (changed o s.amount (in_set s.sets.rows (place / n)) (in_set s.sets.columns (place % n)) b) b) (le-ltb place (n * n) past)
 
-  -- a step under way: the places before this one are done, and all others are as they were
-  pub record Partway (s : Step C) (before : List C) (place : ℕ) (cells : List C) : Type 0 where
-    pub done : (k : ℕ) → k < place → get_or cells k o.empty ≡ changed_at o n s k (get_or before k o.empty)
-    pub waiting : (k : ℕ) → place ≤ k → get_or cells k o.empty ≡ get_or before k o.empty
-
-  partway_all : (s : Step C) (before : List C) (place : ℕ) (cells : List C) → length cells ≡ length before → length before ≤ place → Partway s before place cells → cells ≡ stepped o n s before
-  partway_all s before place cells whole all sofar =
-      same_lists cells (stepped o n s before) (whole ∙ sym (length-stepped s before)) (λ k d within.
-      let there : k < length before = omega arith in
-      get_or_default cells k d o.empty within ∙ sofar.done k (omega arith) ∙ sym (get_or-stepped s before k o.empty there) ∙ get_or_default (stepped o n s before) k o.empty d (omega (arith, length-stepped s before)))
-
   stepped-append : (s : Step C) (place : ℕ) (xs ys : List C) (m : ℕ) → place + length xs ≡ m → stepped_from o n s place (xs ++ ys) ≡ stepped_from o n s place xs ++ stepped_from o n s m ys
   stepped-append s place [] ys m e = let here : place ≡ m = omega arith in ap (λ p. stepped_from o n s p ys) here
   stepped-append s place (x ∷ xs) ys m e = ap (λ l. changed_at o n s place x ∷ l) (stepped-append s (suc place) xs ys m (omega arith))
@@ -60,20 +50,12 @@ module _ {C : Type 0} (o : Operations C) (n : ℕ) where
   all_in_surplus s place (b ∷ cells) (inl none) = absurd (omega arith)
   all_in_surplus s place (b ∷ cells) (inr past) = ap₂ ◌∷◌ (changed_past s place b past) (all_in_surplus s (suc place) cells (inr (omega arith)))
 
-  -- the step is made once its places in the table are done, of which there are m
-  pub partway_made : (s : Step C) (cells : List C) (m place : ℕ) (front : List C) → m ≡ min (n * n) (length cells) → length front ≡ length (take m cells) → length (take m cells) ≤ place → Partway s (take m cells) place front → front ++ drop m cells ≡ stepped o n s cells
-  partway_made s cells m place front is whole all sofar =
-      ap (λ l. l ++ drop m cells) (partway_all s (take m cells) place front whole all sofar)
-      ∙ ap (λ l. stepped o n s (take m cells) ++ l) (sym (all_in_surplus s m (drop m cells) (⊎_elim (λ lt. inl (omega (arith, length-drop m cells))) (λ past. inr past) (cases_lt m (n * n)))))
-      ∙ sym (stepped-append s 0 (take m cells) (drop m cells) m (omega (arith, length-take-le m cells (omega arith))))
-      ∙ ap (stepped o n s) (take-append-drop m cells)
-
   -- a place that is not in surplus
-  changed_there : (s : Step C) (place : ℕ) (b : C) → place < n * n → changed_at o n s place b ≡ changed o s.amount (in_set s.sets.rows (place / n)) (in_set s.sets.columns (place % n)) b
+  pub changed_there : (s : Step C) (place : ℕ) (b : C) → place < n * n → changed_at o n s place b ≡ changed o s.amount (in_set s.sets.rows (place / n)) (in_set s.sets.columns (place % n)) b
   changed_there s place b there = ap (λ t. cond t (changed o s.amount (in_set s.sets.rows (place / n)) (in_set s.sets.columns (place % n)) b) b) (lt-ltb place (n * n) there)
 
   -- the same by row and column
-  grid-stepped : (s : Step C) (cells : List C) → Whole n cells → (r c : ℕ) → r < n → c < n → grid o n (stepped o n s cells) r c ≡ changed o s.amount (in_set s.sets.rows r) (in_set s.sets.columns c) (grid o n cells r c)
+  pub grid-stepped : (s : Step C) (cells : List C) → Whole n cells → (r c : ℕ) → r < n → c < n → grid o n (stepped o n s cells) r c ≡ changed o s.amount (in_set s.sets.rows r) (in_set s.sets.columns c) (grid o n cells r c)
   grid-stepped s cells whole r c row column =
       let place = r * n + c in
       let there : place < n * n = mul-add-lt r n c n row column in
@@ -184,3 +166,31 @@ module _ {C : Type 0} {o : Operations C} (laws : Laws o) (n : ℕ) where
   pub none_settled : (cells : List (Widened C)) (z : C) (columns : List ℕ) (r : Option ℕ) → MatchOption r (AllAbsorbed (widened o) (grid (widened o) n cells) (Allowed z) columns) (FirstNotAbsorbed (widened o) (grid (widened o) n cells) (Allowed z) columns) → IfNone r (SettledWhereReached o n cells z columns)
   none_settled cells z columns None absorbed = settled cells z columns absorbed
   none_settled cells z columns (Some row) found = tt
+
+-- A step under way, whatever the order of its visits: the places that are done hold what the step makes of them, and all others what they held.
+module _ {C : Type 0} (o : Operations C) (n : ℕ) (s : Step C) (before : List C) where
+  abbrev held : ℕ → C → Bool → C
+  held k d done = cond done (changed_at o n s k (get_or before k d)) (get_or before k d)
+
+  pub record Partway (done : ℕ → Bool) (cells : List C) : Type 0 where
+    pub same_length : length cells ≡ length before
+    pub places : (k : ℕ) (d : C) → k < length before → get_or cells k d ≡ held k d (done k)
+
+  -- a place that is done, or in surplus, is as it should be
+  finished : (k : ℕ) (d : C) (done : Bool) → (k < n * n → done ≡ true) → held k d done ≡ changed_at o n s k (get_or before k d)
+  finished k d done all = grind (arith, nat_tests, all)
+
+  pub partway_all : (done : ℕ → Bool) (cells : List C) → Partway done cells → ((k : ℕ) → k < length before → k < n * n → done k ≡ true) → cells ≡ stepped o n s before
+  partway_all done cells sofar all =
+      same_lists cells (stepped o n s before) (sofar.same_length ∙ sym (length-stepped o n s before)) (λ k d within.
+      let there : k < length before = omega (arith, sofar.same_length) in
+      sofar.places k d there ∙ finished k d (done k) (all k there) ∙ sym (get_or-stepped o n s before k d there))
+
+module _ {C : Type 0} (o : Operations C) (n : ℕ) (s : Step C) where
+  -- the step is made once its places in the table are done, of which there are m
+  pub partway_made : (cells : List C) (m : ℕ) (done : ℕ → Bool) (front : List C) → m ≡ min (n * n) (length cells) → Partway o n s (take m cells) done front → ((k : ℕ) → k < length (take m cells) → k < n * n → done k ≡ true) → front ++ drop m cells ≡ stepped o n s cells
+  partway_made cells m done front is sofar all =
+      ap (λ l. l ++ drop m cells) (partway_all o n s (take m cells) done front sofar all)
+      ∙ ap (λ l. stepped o n s (take m cells) ++ l) (sym (all_in_surplus o n s m (drop m cells) (⊎_elim (λ lt. inl (omega (arith, length-drop m cells))) (λ past. inr past) (cases_lt m (n * n)))))
+      ∙ sym (stepped-append o n s 0 (take m cells) (drop m cells) m (omega (arith, length-take-le m cells (omega arith))))
+      ∙ ap (stepped o n s) (take-append-drop m cells)

@@ -3,9 +3,11 @@
 
 #[cfg(test)]
 mod tests {
+    use costs::composition::{class_cost, total_cost, worst_cost};
     use costs::gauge::rest_cost;
     use costs::kind::{CostKind, WrittenKind};
     use costs::values::{Class, Duty, Total, Widened, Worst};
+    use std::alloc::AllocError;
     use tables::rosters::is_roster;
     use tables::steps::{absorbs, value};
     use tables::table::Table;
@@ -101,6 +103,44 @@ mod tests {
 
     fn cell(minutes: u64) -> Widened<Total> {
         Widened::Allowed(Total { minutes })
+    }
+
+    fn longest(minutes: u32) -> Widened<Worst> {
+        Widened::Allowed(Worst { minutes })
+    }
+
+    #[test]
+    fn rows_of_cells(rt: HostRuntime) {
+        assert_eq!(rt; total_cost(&[cell(30), cell(50)]), cell(80));
+        assert_eq!(rt;
+            total_cost(&[cell(30), Widened::Forbidden]),
+            Widened::Forbidden
+        );
+        assert_eq!(rt; worst_cost(&[longest(30), longest(50)]), longest(50));
+        assert_eq!(rt;
+            class_cost(&[class(1, 50), class(0, 0), class(1, 30)]),
+            class(1, 80)
+        );
+        assert_eq!(rt; class_cost(&[class(1, 50), class(2, 61)]), class(2, 61));
+    }
+
+    // A cost has one text, whatever width, filling or sign the caller's format asks for.
+    #[test]
+    fn one_text(rt: HostRuntime) -> Result<(), AllocError> {
+        let alloc = rt.alloc();
+        let total = cell(7);
+        let total = format!(in alloc; "{total:>4}{total:04}{total:+}")?;
+        assert_eq!(rt; total.as_str(), "777");
+        let worst = longest(7);
+        let worst = format!(in alloc; "{worst:>4}{worst:04}{worst:+}")?;
+        assert_eq!(rt; worst.as_str(), "777");
+        let worst_class = class(1, 7);
+        let worst_class = format!(in alloc; "{worst_class:>6}{worst_class:06}{worst_class:+}")?;
+        assert_eq!(rt; worst_class.as_str(), "1:71:71:7");
+        let none = Widened::<Total>::Forbidden;
+        let none = format!(in alloc; "{none:>12}{none:<12}")?;
+        assert_eq!(rt; none.as_str(), "forbiddenforbidden");
+        Ok(())
     }
 
     fn step(rows: u32, columns: u32, minutes: u64) -> Step<Total> {

@@ -8,7 +8,7 @@ use Rattle.std.proofs.lemmas.Str.Pattern.{IsSplitOnceResult, split_after}
 use Rattle.words.specs.Words.{NumberText, PairText}
 
 -- a number of fewer bits is one of 64
-widen : {a : ℕ} {bs : List ℕ} {n : ℕ} → a ≤ 64 → NumberText a bs n → NumberText 64 bs n
+pub widen : {a : ℕ} {bs : List ℕ} {n : ℕ} → a ≤ 64 → NumberText a bs n → NumberText 64 bs n
 widen few t = let more = pow_mono few in record { digits = t.digits; is = t.is; small = omega (arith, t.small) }
 
 -- what stands before and behind the first c
@@ -33,13 +33,15 @@ module _ {between a b : ℕ} {bs : List ℕ} {m n : ℕ} (other : IsInRange 48 5
       let same = split_after between bs t.first_text t.second_text (Some p) cut ascii t.whole (digits_lack t.first_text t.first_is.digits) in
       (rw same.0 t.first_is, rw same.1 t.second_is)
 
-  -- the text of a pair is that of no other, so what is read from it is as small
-  pub pair_small : {k l : ℕ} → PairText between 64 64 bs k l → (k < 2 ^ a) × (l < 2 ^ b)
-  pair_small {k} {l} u =
+  -- the text of a pair is that of no other
+  pub pair_one : {c d k l : ℕ} → PairText between c d bs k l → (m ≡ k) × (n ≡ l)
+  pair_one u =
       let same = same_cut between t.first_text t.second_text u.first_text u.second_text (digits_lack t.first_text t.first_is.digits) (digits_lack u.first_text u.first_is.digits) (sym t.whole ∙ u.whole) in
-      let first : m ≡ k = sym t.first_is.is ∙ ap (digits_value 10) same.0 ∙ u.first_is.is in
-      let second : n ≡ l = sym t.second_is.is ∙ ap (digits_value 10) same.1 ∙ u.second_is.is in
-      (rw (← first) t.first_is.small, rw (← second) t.second_is.small)
+      (sym t.first_is.is ∙ ap (digits_value 10) same.0 ∙ u.first_is.is, sym t.second_is.is ∙ ap (digits_value 10) same.1 ∙ u.second_is.is)
+
+  -- so what is read from it is as small
+  pub pair_small : {k l : ℕ} → PairText between 64 64 bs k l → (k < 2 ^ a) × (l < 2 ^ b)
+  pair_small u = let one = pair_one u in (rw (← one.0) t.first_is.small, rw (← one.1) t.second_is.small)
 
 pub pair_widen : {between a b : ℕ} {bs : List ℕ} {m n : ℕ} → a ≤ 64 → b ≤ 64 → PairText between a b bs m n → PairText between 64 64 bs m n
 pair_widen few few_too t = record {

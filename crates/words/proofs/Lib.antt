@@ -1,3 +1,3 @@
 pub mod Digits
 pub mod Pieces
-pub mod Words
+pub mod Sofar

@@ -82,21 +82,22 @@ last_told kept line (Some bytes) (Some more) (Some rest) so_far some next end =
     let all_read : bytes ≡ so_far.all = so_far.consumed ∙ ap (λ l. so_far.all ++ l) (next ∙ end) ∙ append-nil so_far.all in
     told kept line bytes (Some bytes) (Some more) (Some rest) so_far record { rest = rest; left = refl; end = inr (all_read, some, end) }
 
-told_at_end : (empty : Bool) (kept : Result (Unit {0}) TooLong) (line : List ℕ) (before left after : Option (List ℕ)) (n : ℕ) → n ≡ length line → empty ≡ (n == 0) → LineSoFar kept line before left → Consumes left after [] → IsAtEnd after → IfSome before (λ bytes. LineTaken (then_some (not empty) kept) bytes after line)
-told_at_end true kept line before left after n len is_empty so_far next end =
+told_at_end : (some : Bool) (kept : Result (Unit {0}) TooLong) (line : List ℕ) (before left after : Option (List ℕ)) → some ≡ not (length line == 0) → LineSoFar kept line before left → Consumes left after [] → IsAtEnd after → IfSome before (λ bytes. LineTaken (then_some some kept) bytes after line)
+told_at_end false kept line before left after is_some so_far next end =
     let none : length line ≡ 0 = grind (arith, nat_tests) in
     nothing_told so_far.all before left after (none_read line so_far.all so_far.front none) so_far.consumed next end
-told_at_end false kept line before left after n len is_empty so_far next end =
+told_at_end true kept line before left after is_some so_far next end =
     let some : length line ≢ 0 = grind (arith, nat_tests) in
     last_told kept line before left after so_far (some_read line so_far.all so_far.front some) next end
 
+-- whether any byte is kept is found by `grind`, in whatever form it is asked
 pub returns-in-None-clause-taken : goal.returns-in-None-clause-taken
 returns-in-None-clause-taken g c =
     let before = g.R.Read.remaining c.args.input.now in
     let after = g.R.Read.remaining c.next_byte.new.input in
     let line_len = c.self-in-None.inside.bytes.ok.0 ∙ ap length c.self-in-None.view_is in
     subst (λ r. IfSome before (λ bytes. LineTaken r bytes after c.loop.self)) (sym c.then_some.ensures)
-    (told_at_end c.is_empty.result c.loop.kept c.loop.self before (g.R.Read.remaining c.loop.input) after _ line_len c.is_empty.ensures c.loop.invariant.so_far (rw c.in-None.is at c.in_ok-next_byte.ensures.taken) (rw c.in-None.is at c.in_ok-next_byte.ensures.end))
+    (told_at_end _ c.loop.kept c.loop.self before (g.R.Read.remaining c.loop.input) after (grind (arith, common_steps, line_len)) c.loop.invariant.so_far (rw c.in-None.is at c.in_ok-next_byte.ensures.taken) (rw c.in-None.is at c.in_ok-next_byte.ensures.end))
 
 pub returns-in-Some-eq10-clause-taken : goal.returns-in-Some-eq10-clause-taken
 returns-in-Some-eq10-clause-taken g c =
