@@ -20,9 +20,6 @@ words_all line rest found sofar none = subst (WordsOf line) (append-nil found) (
 pub first_word : (line w rest : List ℕ) → (gap : List ℕ) × (line ≡ gap ++ (w ++ rest)) × (0 < length w) × NoCharPasses is_not_whitespace gap × NoCharPasses is_whitespace w × ((more : List ℕ) × EmptyOrStartsWithPassing is_whitespace rest more) → FirstWord line w rest
 first_word line w rest cut = record { blanks = cut.0; cut = cut.1; some = cut.2; blank = cut.3; solid = cut.4; ends = cut.5 }
 
-pub words_none : (line rest : List ℕ) (found : List (List ℕ)) → rest ≡ line → found ≡ [] → WordsSofar line rest found
-words_none line rest found whole none = λ ws h. rw none (subst (λ l. WordsOf l ws) whole h)
-
 -- a word found goes behind the others
 pub words_push : (line rest next : List ℕ) (old new : List (Bor (List ℕ))) (w : Bor (List ℕ)) → new ≡ old ++ (w ∷ []) → WordsSofar line rest (behind old) → FirstWord rest w.now next → WordsSofar line next (behind new)
 words_push line rest next old new w pushed sofar first =

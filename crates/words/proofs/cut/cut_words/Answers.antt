@@ -1,13 +1,8 @@
-use Rattle.std.proofs.Common.{is_ok, vec_items, ap, ◌∙◌}
+use Rattle.std.proofs.Common.{is_ok, vec_items, ap}
 use Rattle.std.specs.Str.Iter.{split_whitespace_rest}
 use Rattle.std.proofs.ResultArms.{chosen}
-use Rattle.words.proofs.Pieces.{behind}
-use Rattle.words.proofs.Sofar.{words_none, words_push, words_all, first_word}
+use Rattle.words.proofs.Sofar.{words_push, words_all, first_word}
 use Rattle.words.proofs.cut.cut_words.Goals as goal
-
-pub loop-word-init : goal.loop-word-init
-loop-word-init c =
-    words_none _ _ _ (ap split_whitespace_rest c.into_iter-word-iterator.ensures.into_iter_gives ∙ c.split_whitespace-word-items.ensures.rest) (ap behind c.new-words.ensures.items)
 
 pub loop-word-preserved : goal.loop-word-preserved
 loop-word-preserved c =
